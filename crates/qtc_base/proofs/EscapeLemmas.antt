@@ -1,0 +1,11 @@
+-- What escaping does to a text that is taken apart.
+use Rattle.std.proofs.Common.{◌≡◌, ℕ, zero, suc, ◌+◌, ◌<◌, ◌≤◌, List, [], ◌∷◌, ◌++◌, length, take, drop, get_or, false, refl, ap, sym, ◌∙◌, append_assoc, arith}
+use Rattle.qtc_base.specs.Escape.{escaped, escaped_byte, hex_escape, is_plain}
+
+pub escaped-append : (xs ys : List ℕ) → escaped (xs ++ ys) ≡ escaped xs ++ escaped ys
+escaped-append [] ys = refl
+escaped-append (x ∷ xs) ys = ap (λ s. escaped_byte x ++ s) (escaped-append xs ys) ∙ sym (append_assoc (escaped_byte x) (escaped xs) (escaped ys))
+
+-- a byte that isn't plain at the front
+pub escaped-cons : (byte : ℕ) (text : List ℕ) → is_plain byte ≡ false → escaped (byte ∷ text) ≡ hex_escape byte ++ escaped text
+escaped-cons byte text h = rw h refl

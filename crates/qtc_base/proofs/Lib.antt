@@ -1,0 +1,4 @@
+pub mod LineLemmas
+pub mod DecimalLemmas
+pub mod EscapeLemmas
+pub mod ItemLemmas

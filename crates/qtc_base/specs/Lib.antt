@@ -1,0 +1,7 @@
+-- The definitions that the crates of the engine share.
+pub mod Decimal
+pub mod Escape
+pub mod Items
+pub mod ItemsInside
+pub mod Lines
+pub mod Pieces

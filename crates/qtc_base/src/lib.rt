@@ -1,0 +1,22 @@
+//! What every crate of the engine stands on: lists, items and texts, with want of memory as an answer.
+#![tactic(auto)]
+
+mod byte_string;
+mod decimals;
+mod escaping;
+mod item_list;
+mod line_cut;
+mod lists;
+mod memory;
+mod ranges;
+mod values;
+
+pub use byte_string::Bytes;
+pub use decimals::{decimal, read_decimal};
+pub use escaping::escape;
+pub use item_list::{Items, MOST_BYTES, MOST_ITEMS, PushFault};
+pub use line_cut::Lines;
+pub use lists::List;
+pub use memory::NoMemory;
+pub use ranges::Range;
+pub use values::Value;

@@ -2,6 +2,8 @@ ghost use Rattle.std.specs.Prelude.{◌≡◌, IfOk};
 ghost use Rattle.qtc_ops.specs.Maps.{digest_text, map_value};
 ghost use Rattle.qtc_ops.specs.ItemValue.{Answers};
 
+use crate::fields::nth_field;
+use crate::numbers::{decimal_bytes, read_number};
 use crate::{ItemFault, MapOp};
 use qtc_base::{Bytes, NoMemory};
 use sha2::{Digest, Sha256};
@@ -24,6 +26,12 @@ pub fn apply_map(alloc: Global, op: MapOp, item: &[u8]) -> Result<Option<Bytes>,
 {
     match op {
         MapOp::Same => Ok(Some(Bytes::from_slice(alloc, item)?)),
+        MapOp::Length => Ok(Some(decimal_bytes(alloc, item.len() as u128)?)),
         MapOp::Digest => Ok(Some(digest_hex(alloc, item)?)),
+        MapOp::Field(number) => Ok(Some(Bytes::from_slice(alloc, nth_field(item, number))?)),
+        MapOp::Number => match read_number(item) {
+            Some(number) => Ok(Some(decimal_bytes(alloc, number)?)),
+            None => Err(ItemFault::Bad),
+        },
     }
 }

@@ -34,6 +34,12 @@ fn apply_op(alloc: Global, op: &ItemOp, item: &[u8]) -> Result<Option<Bytes>, It
 {
     match op {
         ItemOp::Map(map) => apply_map(alloc, *map, item),
+        ItemOp::Keep { not, pred } => {
+            if pred.keeps(item) == *not {
+                return Ok(None);
+            }
+            Ok(Some(Bytes::from_slice(alloc, item)?))
+        }
     }
 }
 

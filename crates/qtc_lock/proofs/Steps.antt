@@ -7,7 +7,7 @@ use mathlib.Core.Option.{none, some, some-injective, some-ne-none}
 use lib.ListN.{get_elem?}
 use Rattle.atomic_table.specs.Table.{State, Me, keeps, takes, gives, Allows, Arrives, Final}
 use Rattle.qtc_lock.specs.declared.rule.View.{View}
-use Rattle.qtc_lock.specs.Rule.{idle, holding, HasKey, holders, IsFree, IsTaken, Keeps, Tries, Puts}
+use Rattle.qtc_lock.specs.Rule.{idle, holding, HasKey, holders, IsFree, IsTaken, IsKept, Tries, Puts}
 
 module _ {K : Type 0} where
   abbrev one : View K → ℕ
@@ -30,7 +30,7 @@ module _ {K : Type 0} where
 
 module _ {S K : Type 0} (fits : K → S → Type 0) (key : K) (s : State (Option S) (View K)) (views : List (View K)) (keyed : All (HasKey key) views) where
   -- 1 was swapped in for 0, and the value is out with the one view that is holding
-  taken_now : IsFree fits key s → holders views ≡ 1 → Keeps fits key record { words = set s.words 0 1; homes = set s.homes 0 none; views = views }
+  taken_now : IsFree fits key s → holders views ≡ 1 → IsKept fits key record { words = set s.words 0 1; homes = set s.homes 0 none; views = views }
   taken_now free one_holds = record {
     keyed = keyed;
     either = inr record {
@@ -41,7 +41,7 @@ module _ {S K : Type 0} (fits : K → S → Type 0) (key : K) (s : State (Option
   }
 
   -- 1 was swapped in for 1
-  taken_still : IsTaken s → holders views ≡ 1 → Keeps fits key record { words = set s.words 0 1; homes = s.homes; views = views }
+  taken_still : IsTaken s → holders views ≡ 1 → IsKept fits key record { words = set s.words 0 1; homes = s.homes; views = views }
   taken_still taken one_holds = record {
     keyed = keyed;
     either = inr record { word = ap (λ (ws : List ℕ). set ws 0 1) taken.word; out = taken.out; one = one_holds };
@@ -64,12 +64,12 @@ module _ {S K : Type 0} (fits : K → S → Type 0) (key : K) (slots : ℕ) wher
     there : (free : IsFree fits key s) → get_elem? s.homes 0 ≡ some (some (Some free.home.0))
     there free = ap (λ (hs : List (maybe.Option (Option S))). get_elem? hs 0) free.home.1
 
-  from_idle : (id : ℕ) → Allows (Keeps fits key) slots id (idle key, []) 0 (λ _. 1) (Tries fits (idle key, []))
+  from_idle : (id : ℕ) → Allows (IsKept fits key) slots id (idle key, []) 0 (λ _. 1) (Tries fits (idle key, []))
   from_idle id s kept long me wide =
       let count : (w : View K) → holders (set s.views id w) + 0 ≡ holders s.views + one w = λ (w : View K). holders-set s.views id (idle key) w me in
       let keyed : (w : View K) → w.key ≡ key → All (HasKey key) (set s.views id w) = λ (w : View K) is. All-set (HasKey key) s.views id w is kept.keyed in
       elim kept.either [
-        inl free ↦ (
+        | inl free ↦ (
           holding key,
           takes 0 (Some free.home.0),
           there s free,
@@ -86,13 +86,13 @@ module _ {S K : Type 0} (fits : K → S → Type 0) (key : K) (slots : ℕ) wher
       ]
 
   -- a seat that is idle swaps 1 in
-  pub tries : (id : ℕ) (m : Me (Option S) (View K)) → m ≡ (idle key, []) → Allows (Keeps fits key) slots id m 0 (λ _. 1) (Tries fits m)
-  tries id m is = subst (λ (x : Me (Option S) (View K)). Allows (Keeps fits key) slots id x 0 (λ _. 1) (Tries fits x)) (sym is) (from_idle id)
+  pub tries : (id : ℕ) (m : Me (Option S) (View K)) → m ≡ (idle key, []) → Allows (IsKept fits key) slots id m 0 (λ _. 1) (Tries fits m)
+  tries id m is = subst (λ (x : Me (Option S) (View K)). Allows (IsKept fits key) slots id x 0 (λ _. 1) (Tries fits x)) (sym is) (from_idle id)
 
   -- a new seat swaps 1 in
-  pub arrives : Arrives (Keeps fits key) slots 0 (λ _. 1) (Tries fits (idle key, []))
+  pub arrives : Arrives (IsKept fits key) slots 0 (λ _. 1) (Tries fits (idle key, []))
   arrives s kept long wide = elim kept.either [
-    inl free ↦ (
+    | inl free ↦ (
       holding key,
       takes 0 (Some free.home.0),
       there s free,
@@ -108,9 +108,9 @@ module _ {S K : Type 0} (fits : K → S → Type 0) (key : K) (slots : ℕ) wher
     )
   ]
 
-  from_holding : (id : ℕ) (value : S) → fits key value → Allows (Keeps fits key) slots id (holding key, (0, Some value) ∷ []) 0 (λ _. 0) (λ _. Puts (holding key, (0, Some value) ∷ []) 0)
+  from_holding : (id : ℕ) (value : S) → fits key value → Allows (IsKept fits key) slots id (holding key, (0, Some value) ∷ []) 0 (λ _. 0) (λ _. Puts (holding key, (0, Some value) ∷ []) 0)
   from_holding id value ok s kept long me wide = let count = holders-set s.views id (holding key) (idle key) me in elim kept.either [
-    inl free ↦ (let n = free.nobody in absurd (omega arith))
+    | inl free ↦ (let n = free.nobody in absurd (omega arith))
     | inr taken ↦ (
       idle key,
       gives,
@@ -129,26 +129,26 @@ module _ {S K : Type 0} (fits : K → S → Type 0) (key : K) (slots : ℕ) wher
 
   -- the seat that is holding stores 0, and gives back a value that fits
   pub puts : (id : ℕ) (m : Me (Option S) (View K)) (value : S) → m ≡ (holding key, (0, Some value) ∷ []) → fits key value
-      → Allows (Keeps fits key) slots id m 0 (λ _. 0) (λ _. Puts m 0)
-  puts id m value is ok = subst (λ (x : Me (Option S) (View K)). Allows (Keeps fits key) slots id x 0 (λ _. 0) (λ _. Puts x 0)) (sym is) (from_holding id value ok)
+      → Allows (IsKept fits key) slots id m 0 (λ _. 0) (λ _. Puts m 0)
+  puts id m value is ok = subst (λ (x : Me (Option S) (View K)). Allows (IsKept fits key) slots id x 0 (λ _. 0) (λ _. Puts x 0)) (sym is) (from_holding id value ok)
 
 one≢zero : (n m : ℕ) → n ≡ 1 → m ≡ 0 → n ≡ m → ⊥
 one≢zero n m one_is zero_is same = omega arith
 
 module _ {S K : Type 0} (fits : K → S → Type 0) (key : K) (words : List ℕ) (slots : List (Option S)) where
   -- where the word is 0 at the end, the slot has a value that fits
-  pub ends : (slot : Option S) → Final (Keeps fits key) words slots → get_elem? words 0 ≡ some 0 → get_elem? slots 0 ≡ some slot → (value : S) × (slot ≡ Some value) × fits key value
+  pub ends : (slot : Option S) → Final (IsKept fits key) words slots → get_elem? words 0 ≡ some 0 → get_elem? slots 0 ≡ some slot → (value : S) × (slot ≡ Some value) × fits key value
   ends slot last zero_word found = let s = last.0 in elim last.1.either [
-    inl free ↦ (
+    | inl free ↦ (
       free.home.0,
       some-injective _ _ (sym found ∙ last.4 0 (Some free.home.0) (ap (λ (hs : List (maybe.Option (Option S))). get_elem? hs 0) free.home.1)),
       free.home.2,
     )
     | inr taken ↦ (
-      let is : words ≡ 1 ∷ [] = sym last.2 ∙ taken.word in
-      let one_word : some 1 ≡ some 0 = sym (ap (λ (ws : List ℕ). get_elem? ws 0) is) ∙ zero_word in absurd (one≢zero 1 0 refl refl (some-injective 1 0 one_word))
-    )
+        let is : words ≡ 1 ∷ [] = sym last.2 ∙ taken.word in
+        let one_word : some 1 ≡ some 0 = sym (ap (λ (ws : List ℕ). get_elem? ws 0) is) ∙ zero_word in absurd (one≢zero 1 0 refl refl (some-injective 1 0 one_word))
+        )
   ]
 
-  pub ends_with : (value : S) → Final (Keeps fits key) words slots → get_elem? words 0 ≡ some 0 → get_elem? slots 0 ≡ some (Some value) → fits key value
+  pub ends_with : (value : S) → Final (IsKept fits key) words slots → get_elem? words 0 ≡ some 0 → get_elem? slots 0 ≡ some (Some value) → fits key value
   ends_with value last zero_word found = let end = ends (Some value) last zero_word found in let same : end.0 ≡ value = cc (end.1) in subst (fits key) same end.2

@@ -1,5 +1,5 @@
 -- The rule of a lock over one word and one slot (own). The word says whether the value is out, and a seat's view whether the seat has it.
-use Rattle.std.specs.Prelude.{◌≡◌, ◌≢◌, ℕ, ◌⊎◌, Bool, true, false, List, [], ◌∷◌, Option, Some, All, count_by}
+use Rattle.std.specs.Prelude.{◌≡◌, ◌≢◌, ℕ, ◌⊎◌, true, false, List, [], ◌∷◌, Option, Some, All, count_by}
 use mathlib.Core.Option.{none, some}
 use Rattle.atomic_table.specs.Table.{State, Me}
 use Rattle.qtc_lock.specs.declared.rule.View.{View}
@@ -32,7 +32,7 @@ module _ {S K : Type 0} (fits : K → S → Type 0) where
     pub nobody : holders s.views ≡ 0
 
   -- every view has the key, and the lock is free, or its value is out
-  pub record Keeps (key : K) (s : State (Option S) (View K)) : Type 0 where
+  pub record IsKept (key : K) (s : State (Option S) (View K)) : Type 0 where
     pub keyed : All (HasKey key) s.views
     pub either : IsFree key s ⊎ IsTaken s
 

@@ -1,7 +1,7 @@
-//! The lock.
+//! The lock: one word, which is 1 while the value is out, and one slot for the value.
 ghost use Rattle.std.specs.Prelude.{◌≡◌, true, [], ◌∷◌, IfOk, IfErr, None};
 
-use crate::key::{Keyed, Named};
+use crate::key::{GhostKey, Keyed, Names};
 use crate::rule::{Law, Put, Try, View};
 use atomic_table::{Refused, Seat, Table};
 use std::alloc::Global;
@@ -12,13 +12,14 @@ use std::thread::yield_now;
 // Pauses before a thread that waits begins to yield.
 const SPINS: u32 = 16;
 
+/// A lock with one key for good. A value that is not `Drop` leaves it by `close`.
 #[derive(Drop)]
 pub struct KeyLock<S: Keyed> {
-    table: Table<Option<S>, View<S::Key>, Named<S::Key>, Law<S>, Global>,
+    table: Table<Option<S>, View<S::Key>, GhostKey<S::Key>, Law<S>, Global>,
     ghost sized: { (table.shared.table_id.words ≡ 1) × (table.shared.table_id.slots ≡ 1) },
 }
 
-/// The right to put the value back, which one thread has at a time. It has no bytes, and it ends in `put` alone.
+/// The right to put a value back, which one `take` has given and one `put` ends. It has no bytes.
 pub struct Hold<S: Keyed> {
     seat: Seat<Option<S>, View<S::Key>>,
 }
@@ -27,25 +28,25 @@ impl<S: Keyed> KeyLock<S> {
     ghost use Rattle.qtc_lock.specs.Lock.{key_of, IsOf};
     ghost use Rattle.qtc_lock.specs.Rule.{idle, Has};
 
-    /// A lock over the value, whose key is named by the maker. Err is want of memory, and hands the value back.
-    pub fn new(alloc: Global, value: S) -> Result<KeyLock<S>, S>
-        ghost key: { S.Key }
-        requires { S.fits key value }
-        ensures ok { IfOk result (λ lock. key_of lock ≡ key) }
+    /// A lock over the value, under the key that `N` names. `Err` is want of memory, and hands the value back.
+    pub fn new<N: Names<S::Key>>(alloc: Global, value: S) -> Result<KeyLock<S>, S>
+        requires { S.fits N.key value }
+        ensures ok { IfOk result (λ lock. key_of lock ≡ N.key) }
         ensures err { IfErr result (λ back. back ≡ value) }
     {
         let Ok(mut slots) = Vec::with_capacity(alloc, 1) else {
             return Err(value);
         };
         slots.push_reserved(Some(value));
-        let named = Named::named();
-        match Table::new(alloc, &[0], slots, &named) {
+        let key = GhostKey::named();
+        match Table::new(alloc, &[0], slots, &key) {
             Ok((table, _seat)) => Ok(KeyLock { table }),
             Err(Refused { slots }) => Err(only(slots)),
         }
     }
 
-    /// The value, once no other thread has it, with the right to put one back.
+    /// The value, and the right to put one back. While the value is out, it pauses a few times and then yields, each
+    /// time before it looks again.
     pub fn take<R: Wait>(&self, rt: &R) -> (S, Hold<S>)
         ensures fits { S.fits (key_of self.now) result.0 }
         ensures hold { IsOf self.now result.1 }
@@ -58,7 +59,7 @@ impl<S: Keyed> KeyLock<S> {
         }
     }
 
-    // Takes the value out of the slot that the seat has.
+    // Takes the value out of the slot, which the seat has.
     fn gain(&self, mut seat: Seat<Option<S>, View<S::Key>>) -> (S, Hold<S>)
         requires { (seat.table_id ≡ self.now.table.shared.table_id) × Has S.fits (key_of self.now) seat.me }
         ensures fits { S.fits (key_of self.now) result.0 }
@@ -68,7 +69,7 @@ impl<S: Keyed> KeyLock<S> {
         (value, Hold { seat })
     }
 
-    // Tries with one seat, however often, so that one view is left of all the tries.
+    // Tries with one seat, however often, since the view of each new seat would stay in the rule for good.
     fn wait<R: Wait>(
         &self,
         rt: &R,
@@ -80,7 +81,8 @@ impl<S: Keyed> KeyLock<S> {
         let mut rounds = 0;
         for _ in rt.forever() {
             rounds = back_off(rounds);
-            if self.table.shared.peek(0) == 0 && self.table.shared.swap::<Try>(&mut seat, 0, 1) == 0
+            if self.table.shared.peek(0) == 0
+                && self.table.shared.swap::<Try>(&mut seat, 0, 1) == 0
             {
                 return seat;
             }
@@ -88,7 +90,7 @@ impl<S: Keyed> KeyLock<S> {
         unreachable!()
     }
 
-    /// Puts a value back, for the next that takes it.
+    /// Gives the lock a value again, for whoever takes it next. It takes no memory and waits for nobody.
     pub fn put(&self, value: S, hold: Hold<S>)
         requires fits { S.fits (key_of self.now) value }
         requires hold { IsOf self.now hold }
@@ -99,7 +101,7 @@ impl<S: Keyed> KeyLock<S> {
         self.table.shared.store::<Put>(&mut seat, 0, 0);
     }
 
-    /// Ends the lock, and gives the value. It waits for ever where the value is out with a `Hold` that no one can put back any more.
+    /// Ends the lock, and gives its value. Where a `Hold` was never put back it waits for ever, as `take` would.
     pub fn close<R: Wait>(self, rt: &R) -> S
         ensures { S.fits (key_of self) result }
     {

@@ -1,14 +1,14 @@
--- A name owns nothing, so its key is whatever its maker says.
-use Rattle.atomic_table.proofs.Names.{◌≡◌, [], ◌∷◌, refl, a_type, Val, vstruct, vcons, vnil, inst_fn, SProp, emp, ent, sem, Logic, Ura, ‵, raw, ◌⊛◌, ◌$◌, ◌∵◌, !, qed, by, keep, split, fjoin, use0, no_more, and_then, returns, enter, alloc_all, pass_all, free_all, look_at, get, sets, agg, tables, RattleType, owns, types_at, nothing, param, layouts, alive, Stays, walk_of, fact, fact_i, makes_shadow}
+-- It owns nothing, so its key is whatever its maker says.
+use Rattle.atomic_table.proofs.Names.{◌≡◌, [], ◌∷◌, refl, a_type, Val, vstruct, vnil, inst_fn, SProp, emp, ent, sem, Logic, Ura, ‵, raw, ◌⊛◌, ◌$◌, ◌∵◌, !, qed, by, keep, split, fjoin, use0, no_more, and_then, returns, enter, alloc_all, pass_all, free_all, look_at, get, sets, agg, tables, RattleType, owns, types_at, nothing, param, layouts, alive, Stays, walk_of, fact, fact_i, makes_shadow}
 use denote.Struct.Struct.{Struct}
 use denote.Struct.Owning.{shape}
 use Rattle.atomic_table.proofs.Walks.{proved, leaves}
 use Rattle.atomic_table.proofs.Fields.{token_val}
-use Rattle.qtc_lock.specs.contracts.key.Named as name
-use Rattle.qtc_lock.specs.contracts.key.Named.named.{ended, clauses}
-use Rattle.qtc_lock.specs.contracts.key.Named.named.Key.{name as #self}
-use Rattle.qtc_lock.proofs.key.Named.named.Statement.{statement}
-use Rattle.qtc_lock.proofs.key.Named.named.Code as code
+use Rattle.qtc_lock.specs.contracts.key.GhostKey as name
+use Rattle.qtc_lock.specs.contracts.key.GhostKey.named.{ended, clauses}
+use Rattle.qtc_lock.specs.contracts.key.GhostKey.named.Key.{name as #self}
+use Rattle.qtc_lock.proofs.key.GhostKey.named.Statement.{statement}
+use Rattle.qtc_lock.proofs.key.GhostKey.named.Code as code
 
 module _ (U : RattleType) where
   abbrev Plate : RattleType

@@ -1,32 +1,17 @@
 -- Each step of a lock keeps its rule, and what a lock has at its end.
-use Rattle.std.proofs.Common.{◌≡◌, ℕ, zero, suc, ◌+◌, ◌<◌, cond, List, [], ◌∷◌, ◌++◌, length, get_or, set, sym, refl, ap, ◌∙◌, subst, arith, Option, Some, inl, inr, All}
-use Rattle.std.proofs.lemmas.List.Sums.{sum_by-append, sum_by-set}
-use Rattle.std.proofs.lemmas.List.Elements.{All-set, All-append}
+use Rattle.std.proofs.Common.{◌≡◌, ℕ, ◌+◌, cond, List, [], ◌∷◌, get_or, set, sym, refl, ap, ◌∙◌, subst, arith, Option, Some, inl, inr, All}
+use Rattle.std.proofs.lemmas.List.Elements.{All-set}
 use mathlib.Core.Option as maybe
 use mathlib.Core.Option.{none, some, some-injective, some-ne-none}
 use lib.ListN.{get_elem?}
 use Rattle.atomic_table.specs.Table.{State, Me, keeps, takes, gives, Allows, Arrives, Final}
 use Rattle.qtc_lock.specs.declared.rule.View.{View}
+use Rattle.qtc_lock.proofs.Views.{All-snoc, sum_by-set_view, sum_by-snoc}
 use Rattle.qtc_lock.specs.Rule.{idle, holding, HasKey, holders, IsFree, IsTaken, IsKept, Tries, Puts}
 
-module _ {K : Type 0} where
-  abbrev one : View K → ℕ
-  one view = cond view.holding 1 0
-
-  placed : (views : List (View K)) (id : ℕ) (v : View K) → get_elem? views id ≡ some v → (id < length views) × (get_or views id v ≡ v)
-  placed [] id v e = absurd (some-ne-none v (sym e))
-  placed (x ∷ xs) zero v e = (omega arith, some-injective x v e)
-  placed (x ∷ xs) (suc id) v e = let rest = placed xs id v e in (let below = rest.0 in omega arith, rest.1)
-
-  -- a view that changes counts as what it was no more, and as what it is
-  holders-set : (views : List (View K)) (id : ℕ) (v w : View K) → get_elem? views id ≡ some v → holders (set views id w) + one v ≡ holders views + one w
-  holders-set views id v w e = let at = placed views id v e in let same : one (get_or views id v) ≡ one v = ap one at.1 in omega (arith, sum_by-set one views id w v at.0)
-
-  holders-append : (views : List (View K)) (w : View K) → holders (views ++ w ∷ []) ≡ holders views + one w
-  holders-append views w = omega (arith, sum_by-append one views (w ∷ []))
-
-  keyed-append : (key : K) (views : List (View K)) (w : View K) → All (HasKey key) views → w.key ≡ key → All (HasKey key) (views ++ w ∷ [])
-  keyed-append key views w all is = All-append (HasKey key) views (w ∷ []) all (λ i d below. let here : i ≡ 0 = omega arith in rw here is)
+-- what a view adds to the count of those that are holding
+abbrev one : {K : Type 0} → View K → ℕ
+one view = cond view.holding 1 0
 
 module _ {S K : Type 0} (fits : K → S → Type 0) (key : K) (s : State (Option S) (View K)) (views : List (View K)) (keyed : All (HasKey key) views) where
   -- 1 was swapped in for 0, and the value is out with the one view that is holding
@@ -66,7 +51,7 @@ module _ {S K : Type 0} (fits : K → S → Type 0) (key : K) (slots : ℕ) wher
 
   from_idle : (id : ℕ) → Allows (IsKept fits key) slots id (idle key, []) 0 (λ _. 1) (Tries fits (idle key, []))
   from_idle id s kept long me wide =
-      let count : (w : View K) → holders (set s.views id w) + 0 ≡ holders s.views + one w = λ (w : View K). holders-set s.views id (idle key) w me in
+      let count : (w : View K) → holders (set s.views id w) + 0 ≡ holders s.views + one w = λ (w : View K). sum_by-set_view one s.views id (idle key) w me in
       let keyed : (w : View K) → w.key ≡ key → All (HasKey key) (set s.views id w) = λ (w : View K) is. All-set (HasKey key) s.views id w is kept.keyed in
       elim kept.either [
         | inl free ↦ (
@@ -96,20 +81,20 @@ module _ {S K : Type 0} (fits : K → S → Type 0) (key : K) (slots : ℕ) wher
       holding key,
       takes 0 (Some free.home.0),
       there s free,
-      taken_now fits key s _ (keyed-append key s.views (holding key) kept.keyed refl) free (let n = free.nobody in omega (arith, holders-append s.views (holding key))),
+      taken_now fits key s _ (All-snoc (HasKey key) s.views (holding key) refl kept.keyed) free (let n = free.nobody in omega (arith, sum_by-snoc one s.views (holding key))),
       wins s free,
     )
     | inr taken ↦ (
       idle key,
       keeps,
       tt,
-      taken_still fits key s _ (keyed-append key s.views (idle key) kept.keyed refl) taken (let n = taken.one in omega (arith, holders-append s.views (idle key))),
+      taken_still fits key s _ (All-snoc (HasKey key) s.views (idle key) refl kept.keyed) taken (let n = taken.one in omega (arith, sum_by-snoc one s.views (idle key))),
       fails s taken,
     )
   ]
 
   from_holding : (id : ℕ) (value : S) → fits key value → Allows (IsKept fits key) slots id (holding key, (0, Some value) ∷ []) 0 (λ _. 0) (λ _. Puts (holding key, (0, Some value) ∷ []) 0)
-  from_holding id value ok s kept long me wide = let count = holders-set s.views id (holding key) (idle key) me in elim kept.either [
+  from_holding id value ok s kept long me wide = let count = sum_by-set_view one s.views id (holding key) (idle key) me in elim kept.either [
     | inl free ↦ (let n = free.nobody in absurd (omega arith))
     | inr taken ↦ (
       idle key,

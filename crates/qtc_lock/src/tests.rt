@@ -3,9 +3,10 @@ ghost use Rattle.qtc_lock.specs.Lock.{key_of};
 
 mod seated;
 
-use crate::{KeyLock, Keyed};
+use crate::{Hold, KeyLock, Keyed};
 use std::alloc::Global;
 use std::marker::Brand;
+use std::mem::size_of;
 use std::sync::Wait;
 use std::test::Fail;
 use std::thread::{Threads, join};
@@ -109,6 +110,7 @@ fn a_lock_over_seven_gives_seven_and_then_eight(rt: HostRuntime) -> Result<(), F
     lock.put(Number(8), hold);
     let Number(last) = lock.close(&rt);
     assert_eq!(rt; (first, last), (7, 8));
+    assert_eq!(rt; size_of::<Hold<Number>>(), 0);
     Ok(())
 }
 

@@ -1,7 +1,7 @@
 -- What the lines that were read have said of a job.
-use Rattle.std.proofs.Common.{◌≡◌, ℕ, zero, suc, ◌+◌, ◌-◌, ◌<◌, ◌≤◌, List, [], ◌∷◌, ◌++◌, length, take, get_or, eqb, false, true, refl, ap, sym, subst, ◌∙◌, append_assoc, length-append, append-nil, inl, ⊎_elim, arith}
-use Rattle.std.specs.Prelude.{All, codes, IsTrue}
-use Rattle.std.specs.List.{flat_map, AllPass, onto_first}
+use Rattle.std.proofs.Common.{◌≡◌, ℕ, ◌+◌, ◌-◌, ◌≤◌, List, [], ◌∷◌, ◌++◌, length, take, get_or, eqb, true, refl, ap, sym, subst, ◌∙◌, append_assoc, append-nil, inl, ⊎_elim, arith}
+use Rattle.std.specs.Prelude.{codes}
+use Rattle.std.specs.List.{onto_first}
 use Rattle.std.proofs.lemmas.List.Elements.{All-nil, All-cons, All-push, All-get_or}
 use Rattle.std.proofs.lemmas.Bool.{cases_Bool}
 use Rattle.std.proofs.lemmas.Grind.{common_steps}
@@ -35,10 +35,6 @@ start text = record {
   lawful = tt;
   says = refl;
 }
-
-said-append : (xs ys : List (List ℕ)) → said (xs ++ ys) ≡ said xs ++ said ys
-said-append [] ys = refl
-said-append (x ∷ xs) ys = ap (λ s. said_by x ++ s) (said-append xs ys) ∙ sym (append_assoc (said_by x) (said xs) (said ys))
 
 said-push : (xs : List (List ℕ)) (line : List ℕ) → said (xs ++ line ∷ []) ≡ said xs ++ said_by line
 said-push [] line = grind (arith, common_steps)
@@ -114,9 +110,14 @@ departs text rest after stage number line r e not_on =
       within = omega arith;
       before = rw (less, r.cut, take-done r.done (lines rest) number count) (front-done text rest stage number r);
       here = λ _ f.
-        let f' : IsFront (r.done ++ line ∷ []) = subst IsFront (ap (take (number + 1)) whole ∙ take-done (r.done ++ line ∷ []) (lines after) (number + 1) (grind (arith, common_steps))) f in
-        not_on (f'.job, f'.others, f'.sayable, last-short r.done line f'.short,
-          ap (λ s. s ++ f'.others) (ap (λ s. s ++ said_by line) (sym r.says) ∙ sym (said-push r.done line)) ∙ f'.begins);
+          let f' : IsFront (r.done ++ line ∷ []) = subst IsFront (ap (take (number + 1)) whole ∙ take-done (r.done ++ line ∷ []) (lines after) (number + 1) (grind (arith, common_steps))) f in
+          not_on (
+            f'.job,
+            f'.others,
+            f'.sayable,
+            last-short r.done line f'.short,
+            ap (λ s. s ++ f'.others) (ap (λ s. s ++ said_by line) (sym r.says) ∙ sym (said-push r.done line)) ∙ f'.begins,
+          );
       past = λ too_far job reads. absurd (omega arith);
     }
 
@@ -146,8 +147,8 @@ early text rest stage number r e not_whole =
       before = rw (less, r.cut, take-done r.done (lines rest) number count) (front-done text rest stage number r);
       here = λ inside. absurd (omega arith);
       past = λ _ job reads.
-        let says : said r.done ≡ job_lines job = ap said (sym all) ∙ reads.says in
-        few stage not_whole job reads.sayable (sym r.says ∙ says);
+          let says : said r.done ≡ job_lines job = ap said (sym all) ∙ reads.says in
+          few stage not_whole job reads.sayable (sym r.says ∙ says);
     }
 
 onto-few : (byte : ℕ) (ls : List (List ℕ)) → length (onto_first byte ls) ≤ length ls + 1

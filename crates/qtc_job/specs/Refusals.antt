@@ -1,7 +1,6 @@
 -- What a refusal of a job file says. (Own.)
 use Rattle.std.specs.Prelude.{◌≡◌, ℕ, List}
 use Rattle.qtc_base.specs.Lines.{lines}
-use Rattle.qtc_job.specs.declared.jobs.BadJob.{BadJob}
 use Rattle.qtc_job.specs.declared.jobs.ParseFault.{ParseFault}
 use Rattle.qtc_job.specs.declared.jobs.ParseFault.TheVariants.{Bad, Memory}
 use Rattle.qtc_job.specs.Grammar.{DepartsAt}

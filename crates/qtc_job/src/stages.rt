@@ -69,10 +69,7 @@ fn with_words(alloc: Global, stage: Stage, line: &[u8]) -> Result<Option<Stage>,
             None => Ok(None),
         },
         Stage::Named(name) => match read_source(line) {
-            Some(source) => Ok(Some(Stage::Sourced(
-                name,
-                Bytes::from_slice(alloc, source)?,
-            ))),
+            Some(source) => Ok(Some(Stage::Sourced(name, Bytes::from_slice(alloc, source)?))),
             None => Ok(None),
         },
         Stage::Sourced(name, source) => match read_op(line) {

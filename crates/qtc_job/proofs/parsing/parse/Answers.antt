@@ -1,5 +1,5 @@
 use Rattle.std.proofs.Common.{refl, arith}
-use Rattle.qtc_job.proofs.ParseLemmas.{more, departs, whole, early, number-few}
+use Rattle.qtc_job.proofs.ParseLemmas.{more, departs, early, number-few}
 use Rattle.qtc_job.proofs.parsing.parse.Goals as goal
 
 pub overflow_add-number : goal.overflow_add-number

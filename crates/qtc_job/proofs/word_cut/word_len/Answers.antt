@@ -1,5 +1,4 @@
-use Rattle.std.proofs.Common.{◌≡◌, ◌<◌, ◌≤◌, length, get_or, true, false, ap, sym, ◌∙◌, arith}
-use Rattle.std.proofs.lemmas.Grind.{common_steps}
+use Rattle.std.proofs.Common.{◌≡◌, length, get_or, true, ap, arith}
 use Rattle.qtc_job.specs.Words.{is_gap}
 use Rattle.qtc_job.proofs.WordLemmas.{first_word}
 use Rattle.qtc_job.proofs.word_cut.word_len.Goals as goal

@@ -1,0 +1,4 @@
+pub mod HearingLemmas
+pub mod LoadLemmas
+pub mod ReportLemmas
+pub mod RunLemmas

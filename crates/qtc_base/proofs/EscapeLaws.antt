@@ -23,10 +23,10 @@ printed-escape : (byte : ℕ) → byte < 256 → All IsPrinted (hex_escape byte)
 printed-escape byte small =
     let high = printed-glyph (byte / 16) (omega arith) in
     let low = printed-glyph (byte % 16) (omega arith) in
-    All-cons IsPrinted 92 _ (omega arith, λ e. omega arith)
-    (All-cons IsPrinted 120 _ (omega arith, λ e. omega arith)
-    (All-cons IsPrinted (hex_glyph (byte / 16)) _ high
-    (All-cons IsPrinted (hex_glyph (byte % 16)) [] low (All-nil IsPrinted))))
+    let last : All IsPrinted (hex_glyph (byte % 16) ∷ []) = All-cons IsPrinted (hex_glyph (byte % 16)) [] low (All-nil IsPrinted) in
+    let both : All IsPrinted (hex_glyph (byte / 16) ∷ hex_glyph (byte % 16) ∷ []) = All-cons IsPrinted (hex_glyph (byte / 16)) (hex_glyph (byte % 16) ∷ []) high last in
+    let letter : All IsPrinted (120 ∷ hex_glyph (byte / 16) ∷ hex_glyph (byte % 16) ∷ []) = All-cons IsPrinted 120 (hex_glyph (byte / 16) ∷ hex_glyph (byte % 16) ∷ []) (omega arith, λ e. omega arith) both in
+    All-cons IsPrinted 92 (120 ∷ hex_glyph (byte / 16) ∷ hex_glyph (byte % 16) ∷ []) (omega arith, λ e. omega arith) letter
 
 printed-byte : (byte : ℕ) → byte < 256 → All IsPrinted (escaped_byte byte)
 printed-byte byte small =
@@ -56,13 +56,13 @@ plain-escape a plain e = true≢false (sym plain ∙ ap is_plain e)
 same-byte : (a b : ℕ) (after others : List ℕ) → a < 256 → b < 256 → escaped_byte a ++ after ≡ escaped_byte b ++ others → (a ≡ b) × (after ≡ others)
 same-byte a b after others p q e =
     ⊎_elim
-    (λ a_plain. ⊎_elim
-    (λ b_plain. let f = rw (a_plain, b_plain) at e in ((cc), (cc)))
-    (λ b_other. let f = rw (a_plain, b_other) at e in absurd (plain-escape a a_plain (cc)))
+    (λ (a_plain : is_plain a ≡ true). ⊎_elim
+    (λ (b_plain : is_plain b ≡ true). let f = rw (a_plain, b_plain) at e in ((cc), (cc)))
+    (λ (b_other : is_plain b ≡ false). let f = rw (a_plain, b_other) at e in absurd (plain-escape a a_plain (cc)))
     (cases_Bool (is_plain b)))
-    (λ a_other. ⊎_elim
-    (λ b_plain. let f = rw (a_other, b_plain) at e in absurd (plain-escape b b_plain (cc)))
-    (λ b_other. let f = rw (a_other, b_other) at e in
+    (λ (a_other : is_plain a ≡ false). ⊎_elim
+    (λ (b_plain : is_plain b ≡ true). let f = rw (a_other, b_plain) at e in absurd (plain-escape b b_plain (cc)))
+    (λ (b_other : is_plain b ≡ false). let f = rw (a_other, b_other) at e in
     let high : hex_glyph (a / 16) ≡ hex_glyph (b / 16) = cc in
     let low : hex_glyph (a % 16) ≡ hex_glyph (b % 16) = cc in
     (escape-same a b p q high low, (cc)))
@@ -73,8 +73,8 @@ same-byte a b after others p q e =
 some-escape : (b : ℕ) (bs : List ℕ) → [] ≡ escaped_byte b ++ bs → ⊥
 some-escape b bs e =
     ⊎_elim
-    (λ plain. let f = rw plain at e in cc)
-    (λ other. let f = rw other at e in cc)
+    (λ (plain : is_plain b ≡ true). let f = rw plain at e in cc)
+    (λ (other : is_plain b ≡ false). let f = rw other at e in cc)
     (cases_Bool (is_plain b))
 
 pub escaped-same : (a b : List ℕ) → AreBytes a → AreBytes b → escaped a ≡ escaped b → a ≡ b

@@ -3,5 +3,6 @@ pub mod Decimal
 pub mod Escape
 pub mod Items
 pub mod ItemsInside
+pub mod Laws
 pub mod Lines
 pub mod Pieces

@@ -5,6 +5,7 @@ mod byte_string;
 mod decimals;
 mod escaping;
 mod item_list;
+mod laws;
 mod line_cut;
 mod lists;
 mod memory;
@@ -15,6 +16,10 @@ pub use byte_string::Bytes;
 pub use decimals::{decimal, read_decimal};
 pub use escaping::escape;
 pub use item_list::{Items, MOST_BYTES, MOST_ITEMS, PushFault};
+pub use laws::{
+    decimals_spell_their_number, escapes_are_one_line, escapes_are_read_once,
+    lines_are_cut_at_line_feeds, lines_are_the_only_cut,
+};
 pub use line_cut::Lines;
 pub use lists::List;
 pub use memory::NoMemory;

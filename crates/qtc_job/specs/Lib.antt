@@ -1,5 +1,6 @@
 -- The grammar of job files.
 pub mod Grammar
+pub mod Laws
 pub mod Names
 pub mod Refusals
 pub mod Stages

@@ -5,6 +5,7 @@ pub mod MemTexts
 pub mod Reading
 pub mod Shelf
 pub mod ShelfLeft
+pub mod StdSink
 pub mod SureSink
 pub mod SureTexts
 pub mod Writing

@@ -1,5 +1,5 @@
 -- What texts that never fail tell. (Own.)
-use Rattle.std.specs.Prelude.{ℕ, List, [], Option, Some, unwrap_or}
+use Rattle.std.specs.Prelude.{◌≡◌, ℕ, List, [], length, min, Option, None, Some, unwrap_or}
 use Rattle.qtc_outside.specs.declared.sure_texts.SureTexts.{SureTexts}
 use Rattle.qtc_outside.specs.Shelf.{text_under}
 use Rattle.qtc_outside.specs.ShelfLeft.{left_of}
@@ -13,3 +13,19 @@ held_surely texts name = Some (unwrap_or (text_under (pairs_of texts) name) [])
 
 abbrev pub left_surely : SureTexts → Option (List ℕ)
 left_surely texts = Some (left_of texts.shelf)
+
+abbrev pub taken_surely : SureTexts → ℕ
+taken_surely texts = texts.taken
+
+-- no fault comes
+abbrev pub blamed_surely : SureTexts → Option (List ℕ)
+blamed_surely texts = None
+
+abbrev pub chosen_surely : SureTexts → Option (List ℕ)
+chosen_surely texts = texts.chosen
+
+-- nothing was asked of the texts yet
+pub record IsFreshSure (pairs : List (List ℕ × List ℕ)) (texts : SureTexts) : Type 0 where
+  pub held : pairs_of texts ≡ pairs
+  pub taken : texts.taken ≡ 0
+  pub chosen : texts.chosen ≡ None

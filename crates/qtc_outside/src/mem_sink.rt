@@ -22,7 +22,7 @@ impl MemSink {
     /// `fails` fail.
     pub fn new(alloc: Global, most: usize, fails: List<u64>) -> MemSink
         requires { 1 ≤ most }
-        ensures { IsFreshSink fails result }
+        ensures { IsFreshSink most fails result }
     {
         MemSink {
             text: Bytes::new(alloc),
@@ -40,13 +40,33 @@ impl MemSink {
 }
 
 impl Sink for MemSink {
-    ghost use Rattle.qtc_outside.specs.MemSink.{got_by};
+    ghost use Rattle.std.specs.Prelude.{◌≡◌, ◌≤◌, ◌<◌, length, take, [], IfOk, IsErr, OnErr};
+    ghost use Rattle.qtc_outside.specs.Counts.{Rose, faults_after};
+    ghost use Rattle.qtc_outside.specs.Writing.{Takes};
+    ghost use Rattle.qtc_outside.specs.MemSink.{got_by, faults_in, take_len, IsPlanned, IsWriteAfter};
 
     ghost got = { got_by };
 
-    ghost faults = { λ s. s.plan.faults };
+    ghost faults = { faults_in };
 
-    fn write(&mut self, piece: &[u8]) -> Result<usize, Failed> {
+    fn write(&mut self, piece: &[u8]) -> Result<usize, Failed>
+        requires some { 0 < length piece.now }
+
+        ensures least { IfOk result (λ count. 1 ≤ count) }
+        ensures within { IfOk result (λ count. count ≤ length piece.now) }
+        ensures takes { IfOk result (λ count. Takes (got_by self.old) (got_by self.new) (take count piece.now)) }
+
+        ensures fault { OnErr result (Rose (faults_in self.old) (faults_in self.new)) }
+        ensures nothing { OnErr result (Takes (got_by self.old) (got_by self.new) []) }
+        ensures never_falls { faults_in self.old ≤ faults_in self.new }
+
+        // What the trait leaves open: a planned call fails, want of memory fails another, and any other takes
+        // all that it may.
+        ensures planned { IsPlanned self.old → IsErr result }
+        ensures one_fault { faults_in self.new ≡ faults_after (faults_in self.old) result }
+        ensures most { IfOk result (λ count. count ≡ take_len self.old piece.now) }
+        ensures call { IsWriteAfter self.old self.new }
+    {
         if self.plan.next_fails() {
             self.plan.count_fault();
             return Err(Failed);

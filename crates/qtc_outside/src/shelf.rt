@@ -1,4 +1,4 @@
-ghost use Rattle.std.specs.Prelude.{◌≡◌, ◌≤◌, ◌<◌, ◌↔◌, [], length, take, drop, unwrap_or, Some, IsSome, IsTrue};
+ghost use Rattle.std.specs.Prelude.{◌≡◌, ◌≤◌, ◌<◌, ◌↔◌, [], length, take, drop, min, unwrap_or, Some, IsSome, IsTrue};
 ghost use Rattle.qtc_outside.specs.Shelf.{text_under, text_at};
 ghost use Rattle.qtc_outside.specs.Reading.{GivesNext};
 
@@ -68,6 +68,7 @@ impl Shelf {
         requires room { 0 < length into.old }
         ensures within { result ≤ length into.old }
         ensures next { GivesNext (left_of self.old) into.new result (Some (left_of self.new)) }
+        ensures gives { result ≡ min (min (length (left_of self.old)) (length into.old)) most }
         ensures texts { self.new.texts ≡ self.old.texts }
     {
         let text = self.text();

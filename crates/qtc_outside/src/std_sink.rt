@@ -18,8 +18,13 @@ pub struct StdSink {
 }
 
 impl StdSink {
+    ghost use Rattle.std.specs.Prelude.{◌≡◌};
+    ghost use Rattle.qtc_outside.specs.StdSink.{stream_faults};
+
     /// The standard error where `error`, else the standard output.
-    pub fn new(rt: &HostRuntime, error: bool) -> StdSink {
+    pub fn new(rt: &HostRuntime, error: bool) -> StdSink
+        ensures { stream_faults result ≡ 0 }
+    {
         let stream = if error {
             Stream::Error(rt.stderr())
         } else {
@@ -44,13 +49,28 @@ impl StdSink {
 }
 
 impl Sink for StdSink {
-    ghost use Rattle.std.specs.Prelude.{None};
+    ghost use Rattle.std.specs.Prelude.{◌≡◌, ◌≤◌, ◌<◌, length, take, [], None, IfOk, OnErr};
+    ghost use Rattle.qtc_outside.specs.Counts.{Rose, faults_after};
+    ghost use Rattle.qtc_outside.specs.Writing.{Takes};
+    ghost use Rattle.qtc_outside.specs.StdSink.{stream_faults};
 
     ghost got = { λ _. None };
 
-    ghost faults = { λ s. s.faults };
+    ghost faults = { stream_faults };
 
-    fn write(&mut self, piece: &[u8]) -> Result<usize, Failed> {
+    fn write(&mut self, piece: &[u8]) -> Result<usize, Failed>
+        requires some { 0 < length piece.now }
+
+        ensures least { IfOk result (λ count. 1 ≤ count) }
+        ensures within { IfOk result (λ count. count ≤ length piece.now) }
+        ensures takes { IfOk result (λ count. Takes None None (take count piece.now)) }
+
+        ensures fault { OnErr result (Rose (stream_faults self.old) (stream_faults self.new)) }
+        ensures nothing { OnErr result (Takes None None []) }
+        ensures never_falls { stream_faults self.old ≤ stream_faults self.new }
+
+        ensures one_fault { stream_faults self.new ≡ faults_after (stream_faults self.old) result }
+    {
         match self.write_some(piece) {
             Some(count) => Ok(count),
             None => {

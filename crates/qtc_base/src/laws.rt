@@ -1,0 +1,27 @@
+//! What the definitions of this crate say in their subjects' own words.
+ghost use Rattle.qtc_base.specs.Laws.{EscapesAreReadOnce, EscapesAreOneLine, DecimalsSpellTheirNumber, LinesAreCutAtLineFeeds, LinesAreTheOnlyCut};
+
+/// Two texts with one escape are one text: nothing is lost in a report.
+pub fn escapes_are_read_once()
+    ensures { EscapesAreReadOnce }
+{}
+
+/// No escape has a byte below 0x20 or 0x7f, so that a value stays on its line.
+pub fn escapes_are_one_line()
+    ensures { EscapesAreOneLine }
+{}
+
+/// The decimal text of a number is digits that spell it, of which the first isn't 0 unless it is alone.
+pub fn decimals_spell_their_number()
+    ensures { DecimalsSpellTheirNumber }
+{}
+
+/// No line has LF in it, and the lines, each ended by LF, are the text, with an LF where its end lacks one.
+pub fn lines_are_cut_at_line_feeds()
+    ensures { LinesAreCutAtLineFeeds }
+{}
+
+/// No other list of lines is cut so.
+pub fn lines_are_the_only_cut()
+    ensures { LinesAreTheOnlyCut }
+{}

@@ -115,3 +115,6 @@ pub fn run_words<T: Texts, S: Sink, E: Sink, G: Gate>(
         },
     }
 }
+
+#[cfg(test)]
+mod tests;

@@ -2,7 +2,10 @@
 //! what a list operation makes of a list of values.
 #![tactic(auto)]
 
+mod accumulators;
 mod fields;
+mod fold_ops;
+mod folds;
 mod item_faults;
 mod item_fns;
 mod laws;
@@ -11,8 +14,13 @@ mod numbers;
 mod op_fns;
 mod operations;
 mod predicates;
+mod tallies;
+mod texts;
 mod wildcards;
 
+pub use accumulators::FoldAcc;
+pub use fold_ops::FoldOp;
+pub use folds::Fold;
 pub use item_faults::ItemFault;
 pub use item_fns::ItemFn;
 pub use laws::{digits_are_numbers, fields_are_maximal_runs, tests_decide_predicates};
@@ -20,3 +28,5 @@ pub use numbers::NUMBER_DIGITS;
 pub use op_fns::OpFn;
 pub use operations::{ItemOp, MapOp};
 pub use predicates::Pred;
+pub use tallies::Counts;
+pub use texts::TextSoFar;

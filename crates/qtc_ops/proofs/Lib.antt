@@ -1,3 +1,4 @@
+pub mod SortLemmas
 pub mod CountLemmas
 pub mod FieldLemmas
 pub mod NumberLemmas

@@ -1,7 +1,9 @@
 -- How often each value came, ascending by bytes. (Own.)
-use Rattle.std.specs.Prelude.{ℕ, ◌+◌, ◌==◌, List, [], ◌∷◌, ◌++◌, length, map, unwrap_or, if◌then◌else◌}
+use Rattle.std.specs.Prelude.{◌≡◌, ℕ, ◌+◌, ◌≤◌, ◌==◌, All, count_by, List, [], ◌∷◌, ◌++◌, length, map, unwrap_or, if◌then◌else◌}
 use Rattle.std.specs.List.{join_with_byte}
-use Rattle.std.specs.Map.{lookup}
+use Rattle.std.specs.List.Sorted.{IsStrictlySortedBy}
+use Rattle.std.specs.Str.{bytes_eq}
+use Rattle.std.specs.Map.{keys_of, lookup, values_of}
 use Rattle.std.specs.BTreeMap.{insert_entry, is_at}
 use Rattle.qtc_base.specs.Decimal.{decimal_text}
 use Rattle.qtc_ops.specs.Order.{bytes_cmp, capped}
@@ -25,3 +27,9 @@ separated text = if length text == 0 then [] else text ++ 59 ∷ []
 -- the counts, parted by `;`
 abbrev pub counts_text : List (List ℕ × ℕ) → List ℕ
 counts_text counts = join_with_byte 59 (map count_text counts)
+
+-- how often each of the values came, ascending by bytes, and no other value
+pub record AreCounts (values : List (List ℕ)) (counts : List (List ℕ × ℕ)) : Type 0 where
+  pub ascending : IsStrictlySortedBy bytes_cmp (keys_of counts)
+  pub each : (value : List ℕ) → count_of counts value ≡ capped (count_by (bytes_eq value) values)
+  pub some : All (λ count. 1 ≤ count) (values_of counts)

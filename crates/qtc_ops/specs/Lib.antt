@@ -4,6 +4,7 @@ pub mod CountsInside
 pub mod Fields
 pub mod Folds
 pub mod ItemValue
+pub mod Kept
 pub mod ListOps
 pub mod Maps
 pub mod Numbers

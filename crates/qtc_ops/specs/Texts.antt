@@ -1,5 +1,5 @@
 -- A joined text, and the greater of two. (Own.)
-use Rattle.std.specs.Prelude.{ℕ, List, ◌++◌, Option, Some, None, if◌then◌else◌}
+use Rattle.std.specs.Prelude.{◌≡◌, ℕ, false, List, [], ◌∷◌, ◌++◌, All, Contains, Option, Some, None, MatchOption, if◌then◌else◌}
 use Rattle.std.specs.Ordering.{is_lt}
 use Rattle.qtc_ops.specs.Order.{bytes_cmp}
 
@@ -12,3 +12,14 @@ joined_text (Some text) separator value = text ++ (separator ++ value)
 abbrev pub greater : Option (List ℕ) → List ℕ → List ℕ
 greater None value = value
 greater (Some best) value = if is_lt (bytes_cmp best value) then value else best
+
+-- the values one after the other, with the separator between each two
+abbrev pub joined_by : List ℕ → List (List ℕ) → List ℕ
+joined_by separator [] = []
+joined_by separator (value ∷ []) = value
+joined_by separator (value ∷ next ∷ values) = value ++ (separator ++ joined_by separator (next ∷ values))
+
+-- one of the values, below none of them; nothing where there is no value
+abbrev pub IsGreatestOf : List (List ℕ) → Option (List ℕ) → Type 0
+IsGreatestOf values best =
+    MatchOption best (values ≡ []) (λ greatest. Contains values greatest × All (λ value. is_lt (bytes_cmp greatest value) ≡ false) values)

@@ -24,7 +24,11 @@ pub use fold_ops::FoldOp;
 pub use folds::Fold;
 pub use item_faults::ItemFault;
 pub use item_fns::ItemFn;
-pub use laws::{digits_are_numbers, fields_are_maximal_runs, tests_decide_predicates};
+pub use laws::{
+    digits_are_numbers, fields_are_maximal_runs, folds_count_and_add, folds_go_from_the_left,
+    greatest_is_greatest, joins_separate, pairs_stand_by_range, sorted_values_ascend,
+    tallies_count, tests_decide_predicates,
+};
 pub use list_ops::{ListOp, apply_list};
 pub use numbers::NUMBER_DIGITS;
 pub use op_fns::OpFn;

@@ -3,6 +3,7 @@
 #![tactic(auto)]
 
 mod accumulators;
+mod copies;
 mod fields;
 mod fold_ops;
 mod folds;
@@ -16,6 +17,8 @@ mod op_fns;
 mod operations;
 mod predicates;
 mod tallies;
+#[cfg(test)]
+mod tests;
 mod texts;
 mod wildcards;
 

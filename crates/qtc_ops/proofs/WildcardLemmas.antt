@@ -1,5 +1,5 @@
 -- What a wildcard test says, and how a matcher goes on with it.
-use Rattle.std.proofs.Common.{◌≡◌, ℕ, zero, suc, ◌+◌, ◌≤◌, ◌<◌, Bool, true, false, ◌&&◌, ◌||◌, eqb, List, [], ◌∷◌, ◌++◌, length, take, drop, Decides, refl, sym, ap, ◌∙◌, inl, inr, ⊎_elim, arith, cond, get_or, ◌-◌, ◌*◌, subst}
+use Rattle.std.proofs.Common.{◌≡◌, ℕ, zero, suc, ◌+◌, ◌≤◌, ◌<◌, Bool, true, false, ◌&&◌, ◌||◌, eqb, List, [], ◌∷◌, ◌++◌, length, take, drop, Decides, refl, sym, ap, ◌∙◌, append_assoc, inl, inr, ⊎_elim, arith, cond, get_or, ◌-◌, ◌*◌, subst}
 use Rattle.std.specs.List.{AllZip, concat}
 use Rattle.std.proofs.lemmas.Bool.{cases_Bool, or_cases, or_left, or_right, or_from, and_parts, and_from, eqb-true, eq-eqb, false≢true, ne_eqb, false_from_ne_true, both_ways}
 use Rattle.std.proofs.lemmas.List.{take-append-drop}
@@ -252,3 +252,43 @@ fewer-steps a b m s t lt le =
 
 pub no_more-steps : (a b m s t : ℕ) → a ≤ b → s < t → a * (m + 1) + s < b * (m + 1) + t
 no_more-steps a b m s t le lt = let more : a * (m + 1) ≤ b * (m + 1) = mul-le-mul_right (m + 1) le in omega arith
+
+-- ---- a pattern of two parts
+
+split-pieces : (front back : List ℕ) (pieces : List (List ℕ)) → AllZip StandsFor (front ++ back) pieces → (a : List ℕ) × (b : List ℕ) × (concat pieces ≡ a ++ b) × Matches front a × Matches back b
+split-pieces [] back pieces each =
+    ([], concat pieces, refl, record { pieces = []; each = tt; whole = refl }, record { pieces = pieces; each = each; whole = refl })
+split-pieces (symbol ∷ front) back [] each = absurd each
+split-pieces (symbol ∷ front) back (piece ∷ pieces) each =
+    let more = split-pieces front back pieces each.1 in (
+      piece ++ more.0,
+      more.1,
+      ap (λ s. piece ++ s) more.2 ∙ sym (append_assoc piece more.0 more.1),
+      record {
+        pieces = piece ∷ more.3.pieces;
+        each = (each.0, more.3.each);
+        whole = ap (λ s. piece ++ s) more.3.whole;
+      },
+      more.4,
+    )
+
+join-pieces : (front back : List ℕ) (ps qs : List (List ℕ)) → AllZip StandsFor front ps → AllZip StandsFor back qs → AllZip StandsFor (front ++ back) (ps ++ qs)
+join-pieces [] back [] qs f b = b
+join-pieces [] back (p ∷ ps) qs f b = absurd f
+join-pieces (symbol ∷ front) back [] qs f b = absurd f
+join-pieces (symbol ∷ front) back (p ∷ ps) qs f b = (f.0, join-pieces front back ps qs f.1 b)
+
+concat-append : (ps qs : List (List ℕ)) → concat (ps ++ qs) ≡ concat ps ++ concat qs
+concat-append [] qs = refl
+concat-append (p ∷ ps) qs = ap (λ s. p ++ s) (concat-append ps qs) ∙ sym (append_assoc p (concat ps) (concat qs))
+
+pub Matches-append : (front back item : List ℕ) → (Matches (front ++ back) item → (a : List ℕ) × (b : List ℕ) × (item ≡ a ++ b) × Matches front a × Matches back b)
+    × (((a : List ℕ) × (b : List ℕ) × (item ≡ a ++ b) × Matches front a × Matches back b) → Matches (front ++ back) item)
+Matches-append front back item = (
+  λ m. let parts = split-pieces front back m.pieces m.each in (parts.0, parts.1, sym m.whole ∙ parts.2, parts.3, parts.4),
+  λ parts. record {
+    pieces = parts.3.pieces ++ parts.4.pieces;
+    each = join-pieces front back parts.3.pieces parts.4.pieces parts.3.each parts.4.each;
+    whole = concat-append parts.3.pieces parts.4.pieces ∙ (ap (λ s. s ++ concat parts.4.pieces) parts.3.whole ∙ (ap (λ s. parts.0 ++ s) parts.4.whole ∙ sym parts.2));
+  },
+)

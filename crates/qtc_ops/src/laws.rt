@@ -17,6 +17,7 @@ ghost use Rattle.qtc_ops.specs.Numbers.{is_number};
 ghost use Rattle.qtc_ops.specs.Order.{bytes_cmp, capped};
 ghost use Rattle.qtc_ops.specs.Predicates.{keeps, Keeps};
 ghost use Rattle.qtc_ops.specs.Texts.{joined_by, IsGreatestOf};
+ghost use Rattle.qtc_ops.specs.Wildcards.{Matches};
 
 /// An item counts as a number exactly where it is 1 to `NUMBER_DIGITS` decimal digits.
 pub fn digits_are_numbers()
@@ -31,6 +32,13 @@ pub fn fields_are_maximal_runs()
 /// The test that keeps an item answers exactly where the predicate holds.
 pub fn tests_decide_predicates()
     ensures { (pred : Pred) (item : List ℕ) → IsTrue (keeps pred item) ↔ Keeps pred item }
+{}
+
+/// A pattern of two parts matches exactly where the item is a front that the first part matches and a rest that
+/// the second does.
+pub fn patterns_match_part_by_part()
+    ensures { (front back item : List ℕ) → Matches (front ++ back) item
+        ↔ ((first : List ℕ) × (rest : List ℕ) × (item ≡ first ++ rest) × Matches front first × Matches back rest) }
 {}
 
 /// The kept pairs of a range are those of its items alone.

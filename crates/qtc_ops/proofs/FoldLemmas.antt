@@ -1,5 +1,5 @@
 -- What the folds come to over a whole list.
-use Rattle.std.proofs.Common.{◌≡◌, ℕ, suc, ◌+◌, ◌-◌, ◌^◌, ◌≤◌, ◌<◌, min, Bool, true, false, cond, List, [], ◌∷◌, ◌++◌, length, map, fold, sum_by, Option, Some, None, MatchOption, unwrap_or, refl, sym, ap, subst, ◌∙◌, append_assoc, append-nil, ⊎_elim, arith}
+use Rattle.std.proofs.Common.{◌≡◌, ℕ, ◌+◌, false, List, [], ◌∷◌, ◌++◌, length, fold, sum_by, Option, Some, None, refl, sym, ap, subst, ◌∙◌, append_assoc, append-nil, ⊎_elim, arith}
 use Rattle.std.specs.List.{All, Contains}
 use Rattle.std.specs.Ordering.{is_lt}
 use Rattle.std.proofs.lemmas.Bool.{cases_Bool}
@@ -10,12 +10,12 @@ use Rattle.std.proofs.lemmas.Cmp.{tied_itself}
 use Rattle.std.specs.Cmp.Lexicographic.{nat_list_cmp_total}
 use Rattle.qtc_base.specs.Decimal.{number_of}
 use Rattle.qtc_ops.specs.declared.accumulators.FoldAcc.{FoldAcc}
-use Rattle.qtc_ops.specs.declared.accumulators.FoldAcc.TheVariants.{Number, Text, Counts}
+use Rattle.qtc_ops.specs.declared.accumulators.FoldAcc.TheVariants.{Number, Text}
 use Rattle.qtc_ops.specs.declared.fold_ops.FoldOp.{FoldOp}
-use Rattle.qtc_ops.specs.declared.fold_ops.FoldOp.TheVariants.{Count, Size, Sum, Join, Greatest, Tally}
+use Rattle.qtc_ops.specs.declared.fold_ops.FoldOp.TheVariants.{Count, Size, Sum, Join, Greatest}
 use Rattle.qtc_ops.specs.Folds.{added, first_of, folded, next_of, shown_of}
 use Rattle.qtc_ops.specs.Order.{bytes_cmp, capped}
-use Rattle.qtc_ops.specs.Texts.{greater, joined_by, joined_text, IsGreatestOf}
+use Rattle.qtc_ops.specs.Texts.{greater, joined_by, IsGreatestOf}
 use Rattle.qtc_ops.proofs.SortLemmas.{one_way}
 
 fold-push : (step : FoldAcc → List ℕ → FoldAcc) (acc : FoldAcc) (values : List (List ℕ)) (value : List ℕ) → fold step acc (values ++ value ∷ []) ≡ step (fold step acc values) value

@@ -1,10 +1,10 @@
 -- The kept pairs of a range.
-use Rattle.std.proofs.Common.{◌≡◌, ℕ, zero, suc, ◌+◌, ◌-◌, ◌≤◌, ◌<◌, Bool, true, false, ◌&&◌, cond, leb, ltb, List, [], ◌∷◌, length, take, drop, Option, Some, None, refl, sym, ap, ◌∙◌, arith}
+use Rattle.std.proofs.Common.{◌≡◌, ℕ, zero, suc, ◌+◌, ◌-◌, ◌≤◌, ◌<◌, Bool, false, ◌&&◌, leb, ltb, List, [], ◌∷◌, length, take, drop, refl, ap, ◌∙◌, arith}
 use Rattle.std.specs.Prelude.{filter, slice_range}
 use Rattle.std.specs.List.{cons_option}
 use Rattle.std.proofs.lemmas.Bool.{le-leb, lt-ltb, lt-leb, le-ltb, and_from, and_left, and_right}
 use Rattle.qtc_ops.specs.ItemValue.{ItemValue, kept, dropped, bad}
-use Rattle.qtc_ops.specs.Kept.{kept_pair, pairs, pairs_between, pairs_from}
+use Rattle.qtc_ops.specs.Kept.{kept_pair, pairs_between, pairs_from}
 
 abbrev within : ℕ → ℕ → ℕ × List ℕ → Bool
 within begin end pair = leb begin pair.0 && ltb pair.0 end

@@ -1,4 +1,4 @@
-use Rattle.std.proofs.Common.{◌≡◌, ◌++◌, ◌+◌, ◌<◌, ap, sym, ◌∙◌, arith, length, take, get_or, List, ℕ, []}
+use Rattle.std.proofs.Common.{◌≡◌, ◌++◌, ◌+◌, ◌<◌, ap, sym, ◌∙◌, length, take, get_or, List, ℕ, []}
 use Rattle.std.proofs.lemmas.List.{flat_map_more, get_or_read, take_more}
 use Rattle.std.proofs.lemmas.List.Concat.{concat_is}
 use Rattle.std.specs.List.{concat, flat_map}

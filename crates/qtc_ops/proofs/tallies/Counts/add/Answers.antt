@@ -1,4 +1,3 @@
-use Rattle.std.proofs.Common.{◌≡◌}
 use Rattle.qtc_ops.proofs.CountLemmas.{counted-again, counted-first}
 use Rattle.qtc_ops.proofs.tallies.Counts.add.Goals as goal
 

@@ -1,5 +1,5 @@
 //! What the definitions of `specs/` that compute come to, in words that compute nothing.
-ghost use Rattle.std.specs.Prelude.{◌≡◌, ◌+◌, ◌≤◌, ℕ, List, ◌∷◌, [], ◌++◌, Option, ◌↔◌, IsTrue, length, sum_by, slice_range};
+ghost use Rattle.std.specs.Prelude.{◌≡◌, ◌+◌, ◌≤◌, ◌<◌, ℕ, Bool, List, Contains, ◌∷◌, [], ◌++◌, Option, ◌↔◌, IsTrue, length, sum_by, slice_index_or, slice_range};
 ghost use Rattle.std.specs.List.Sorted.{IsPermutation, IsSorted};
 ghost use Rattle.qtc_base.specs.Decimal.{IsNumber, number_of};
 ghost use Rattle.qtc_ops.specs.declared.accumulators.FoldAcc.TheVariants.{Number, Text, Counts};
@@ -10,8 +10,8 @@ ghost use Rattle.qtc_ops.specs.declared.numbers.TheConstants.{NUMBER_DIGITS};
 ghost use Rattle.qtc_ops.specs.Counts.{AreCounts};
 ghost use Rattle.qtc_ops.specs.Fields.{fields, AreFields};
 ghost use Rattle.qtc_ops.specs.Folds.{folded, next_of, shown_of};
-ghost use Rattle.qtc_ops.specs.ItemValue.{ItemValue};
-ghost use Rattle.qtc_ops.specs.Kept.{pairs_between, pairs_from};
+ghost use Rattle.qtc_ops.specs.ItemValue.{ItemValue, kept};
+ghost use Rattle.qtc_ops.specs.Kept.{fails, fails_at, pairs, pairs_between, pairs_from};
 ghost use Rattle.qtc_ops.specs.ListOps.{sorted};
 ghost use Rattle.qtc_ops.specs.Numbers.{is_number};
 ghost use Rattle.qtc_ops.specs.Order.{bytes_cmp, capped};
@@ -39,6 +39,20 @@ pub fn tests_decide_predicates()
 pub fn patterns_match_part_by_part()
     ensures { (front back item : List ℕ) → Matches (front ++ back) item
         ↔ ((first : List ℕ) × (rest : List ℕ) × (item ≡ first ++ rest) × Matches front first × Matches back rest) }
+{}
+
+/// A pair is kept exactly where the item at its index has its text as value.
+pub fn pairs_are_what_is_kept()
+    ensures { (value : List ℕ → ItemValue) (items : List (List ℕ)) (index : ℕ) (text : List ℕ) →
+        Contains (pairs value items) (index, text)
+        ↔ ((index < length items) × (value (slice_index_or items index []) ≡ kept text)) }
+{}
+
+/// An index fails exactly where the value of its item is bad, or is kept and refused.
+pub fn fails_are_what_fails()
+    ensures { (value : List ℕ → ItemValue) (refuses : List ℕ → Bool) (items : List (List ℕ)) (index : ℕ) →
+        Contains (fails value refuses items) index
+        ↔ ((index < length items) × IsTrue (fails_at refuses (value (slice_index_or items index [])))) }
 {}
 
 /// The kept pairs of a range are those of its items alone.

@@ -1,11 +1,11 @@
 -- The fields of an item are its maximal runs, and an iterator gives them.
-use Rattle.std.proofs.Common.{◌≡◌, ℕ, zero, suc, ◌<◌, ◌≤◌, ◌-◌, Option, unwrap_or, slice_get, Bool, true, false, not, eqb, cond, List, [], ◌∷◌, ◌++◌, length, get_or, refl, sym, ap, ◌∙◌, ⊎_elim, subst, arith}
+use Rattle.std.proofs.Common.{◌≡◌, ℕ, zero, suc, ◌<◌, ◌≤◌, ◌-◌, Option, unwrap_or, slice_get, true, false, not, eqb, List, [], ◌∷◌, ◌++◌, length, get_or, refl, sym, ap, ◌∙◌, ⊎_elim, subst, arith}
 use Rattle.std.specs.Prelude.{filter}
 use Rattle.std.specs.List.{AllPass, onto_first, slice_split}
 use Rattle.std.proofs.lemmas.Bool.{cases_Bool, ne_eqb, not_from_false}
 use Rattle.std.proofs.lemmas.List.Elements.{All-nil, All-cons}
 use Rattle.std.proofs.lemmas.List.Splits.{slice_split-cons_yes, slice_split-cons_no}
-use Rattle.qtc_ops.specs.Fields.{is_blank, fields, IsFirstField, AreFields, field_of}
+use Rattle.qtc_ops.specs.Fields.{is_blank, fields, AreFields, field_of}
 
 -- what a split says of the item: its first part stands at the front and ends at a blank or the end, and the other parts that aren't empty are the fields of what is after it
 abbrev IsSplit : List ℕ → List (List ℕ) → Type 0

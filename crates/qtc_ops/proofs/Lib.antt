@@ -1,4 +1,9 @@
+pub mod CountLemmas
 pub mod FieldLemmas
+pub mod FoldLemmas
+pub mod KeptLemmas
 pub mod NumberLemmas
 pub mod PredicateLemmas
+pub mod SortLemmas
+pub mod TallyLemmas
 pub mod WildcardLemmas

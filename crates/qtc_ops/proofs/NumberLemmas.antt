@@ -1,5 +1,5 @@
 -- The test of numbers against what they are.
-use Rattle.std.proofs.Common.{◌≡◌, ℕ, ◌≤◌, ◌<◌, Bool, true, false, ◌&&◌, List, [], ◌∷◌, length, Decides, refl, arith}
+use Rattle.std.proofs.Common.{ℕ, List, length, Decides, refl}
 use Rattle.std.specs.Str.{all_ascii_digits}
 use Rattle.std.specs.List.{All}
 use Rattle.std.specs.Char.{is_ascii_digit}

@@ -1,10 +1,11 @@
 -- What a wildcard test says, and how a matcher goes on with it.
-use Rattle.std.proofs.Common.{◌≡◌, ℕ, zero, suc, ◌+◌, ◌≤◌, ◌<◌, Bool, true, false, ◌&&◌, ◌||◌, eqb, List, [], ◌∷◌, ◌++◌, length, take, drop, Decides, refl, sym, ap, ◌∙◌, inl, inr, ⊎_elim, arith, cond, get_or, ◌-◌, ◌*◌, subst}
+use Rattle.std.proofs.Common.{◌≡◌, ℕ, zero, suc, ◌+◌, ◌≤◌, ◌<◌, Bool, true, false, ◌||◌, eqb, List, [], ◌∷◌, ◌++◌, length, take, drop, Decides, refl, sym, ap, ◌∙◌, append_assoc, inl, inr, ⊎_elim, arith, get_or, ◌-◌, ◌*◌, subst, Option, Some, None, unwrap_or}
 use Rattle.std.specs.List.{AllZip, concat}
-use Rattle.std.proofs.lemmas.Bool.{cases_Bool, or_cases, or_left, or_right, or_from, and_parts, and_from, eqb-true, eq-eqb, false≢true, ne_eqb, false_from_ne_true, both_ways}
+use Rattle.std.proofs.lemmas.Bool.{cases_Bool, or_cases, or_left, or_right, and_parts, and_from, eqb-true, eq-eqb, false≢true, ne_eqb, false_from_ne_true, both_ways}
 use Rattle.std.proofs.lemmas.List.{take-append-drop}
 use Rattle.std.proofs.lemmas.Grind.{common_steps}
 use Rattle.std.proofs.Math.Nat.{mul-le-mul_right}
+use Rattle.memchr.specs.Find.{IsFirstByte, is_byte}
 use Rattle.qtc_ops.specs.Wildcards.{StandsFor, Matches, some_suffix, after_byte, fits, wildcard, TakesOne, CannotFit}
 
 -- ---- a suffix that passes
@@ -186,13 +187,17 @@ Tries-at : {pattern item symbols bytes after from : List ℕ} (others more : Lis
 Tries-at {pattern} {item} {symbols} {bytes} {after} {from} others more e f t =
     subst (λ s. Tries pattern item s more after from) e (subst (λ b. Tries pattern item symbols b after from) f t)
 
-pub Tries-star : (pattern item symbols bytes after from rest : List ℕ) → symbols ≡ 42 ∷ rest → Tries pattern item symbols bytes after from → Tries pattern item rest bytes rest bytes
-Tries-star pattern item symbols bytes after from rest star t =
+-- the symbols after a `*` against all later suffixes
+goes_on-again : (after from : List ℕ) → goes_on after from after from ≡ some_suffix (wildcard after) from
+goes_on-again after from = sym (some_suffix-split (wildcard after) from)
+
+pub Tries-star : (pattern item symbols bytes after from rest later : List ℕ) → symbols ≡ 42 ∷ rest → some_suffix (wildcard rest) bytes ≡ some_suffix (wildcard rest) later → Tries pattern item symbols bytes after from → Tries pattern item rest later rest later
+Tries-star pattern item symbols bytes after from rest later star same t =
     let at = Tries-at (42 ∷ rest) bytes star refl t in
     let kept = at.few in
     record {
-      told = at.told ∙ star-goes_on rest bytes after from at.covered;
-      covered = star-covered rest bytes;
+      told = at.told ∙ (star-goes_on rest bytes after from at.covered ∙ (goes_on-again rest bytes ∙ (same ∙ sym (goes_on-again rest later))));
+      covered = star-covered rest later;
       few = omega arith;
       few_after = omega arith;
     }
@@ -220,13 +225,13 @@ IsStuck [] (byte ∷ bytes) other some none = end-none byte bytes
 IsStuck (symbol ∷ symbols) (byte ∷ bytes) other some none =
     ⊎_elim (λ empty. absurd (omega arith)) (⊎_elim (λ empty. absurd (omega arith)) (λ unfit. byte-none symbol byte symbols bytes (ne_eqb symbol 42 other) unfit)) none
 
-pub Tries-again : (pattern item symbols bytes after from : List ℕ) → (get_or symbols 0 0 ≡ 42 → ⊥) → 1 ≤ length bytes → CannotFit symbols bytes → 1 ≤ length from → Tries pattern item symbols bytes after from → let shorter = take (length from - 1) (drop 1 from) in Tries pattern item after shorter after shorter
-Tries-again pattern item symbols bytes after from other more none some t =
+pub Tries-again : (pattern item symbols bytes after from later : List ℕ) → (get_or symbols 0 0 ≡ 42 → ⊥) → 1 ≤ length bytes → CannotFit symbols bytes → 1 ≤ length from → some_suffix (wildcard after) (take (length from - 1) (drop 1 from)) ≡ some_suffix (wildcard after) later → Tries pattern item symbols bytes after from → Tries pattern item after later after later
+Tries-again pattern item symbols bytes after from later other more none some same t =
     let shorter = take (length from - 1) (drop 1 from) in
     let at = ap (λ f. goes_on symbols bytes after f) (front from some) in
     record {
-      told = t.told ∙ (at ∙ retry-goes_on symbols bytes after (get_or from 0 0) shorter (IsStuck symbols bytes other more none));
-      covered = star-covered after shorter;
+      told = t.told ∙ (at ∙ (retry-goes_on symbols bytes after (get_or from 0 0) shorter (IsStuck symbols bytes other more none) ∙ (goes_on-again after shorter ∙ (same ∙ sym (goes_on-again after later)))));
+      covered = star-covered after later;
       few = t.few_after;
       few_after = t.few_after;
     }
@@ -252,3 +257,85 @@ fewer-steps a b m s t lt le =
 
 pub no_more-steps : (a b m s t : ℕ) → a ≤ b → s < t → a * (m + 1) + s < b * (m + 1) + t
 no_more-steps a b m s t le lt = let more : a * (m + 1) ≤ b * (m + 1) = mul-le-mul_right (m + 1) le in omega arith
+
+-- ---- where the symbols after a `*` may match
+
+some_suffix-skip : (test : List ℕ → Bool) (bytes : List ℕ) (place : ℕ) → place ≤ length bytes → ((k : ℕ) → k < place → test (drop k bytes) ≡ false) → some_suffix test bytes ≡ some_suffix test (drop place bytes)
+some_suffix-skip test bytes zero le none = refl
+some_suffix-skip test [] (suc place) le none = absurd (omega arith)
+some_suffix-skip test (byte ∷ bytes) (suc place) le none =
+    rw (none 0 (omega arith)) (some_suffix-skip test bytes place (omega arith) (λ k lt. none (suc k) (omega arith)))
+
+-- at the end no symbols match
+pub seek-end : (bytes : List ℕ) → some_suffix (wildcard []) bytes ≡ some_suffix (wildcard []) []
+seek-end bytes = some_suffix-from (wildcard []) bytes (length bytes) (omega arith) (rw drop_all_bytes refl)
+  where
+    drop_all_bytes : drop (length bytes) bytes ≡ []
+    drop_all_bytes = grind (arith, common_steps)
+
+first_byte-none : (symbol : ℕ) (symbols bytes : List ℕ) (k : ℕ) → eqb symbol 42 ≡ false → eqb symbol 63 ≡ false → k < length bytes → eqb (get_or bytes k 0) symbol ≡ false → wildcard (symbol ∷ symbols) (drop k bytes) ≡ false
+first_byte-none symbol symbols [] k star any lt other = absurd (omega arith)
+first_byte-none symbol symbols (byte ∷ bytes) zero star any lt other = byte-none symbol byte symbols bytes star (rw any (ne_eqb symbol byte (λ e. both_ways _ other (eq-eqb byte symbol (sym e)))))
+first_byte-none symbol symbols (byte ∷ bytes) (suc k) star any lt other = first_byte-none symbol symbols bytes k star any (omega arith) other
+
+pub seek-to : (symbol : ℕ) (symbols bytes : List ℕ) (place : ℕ) → eqb symbol 42 ≡ false → eqb symbol 63 ≡ false → place ≤ length bytes → ((k : ℕ) → k < place → eqb (get_or bytes k 0) symbol ≡ false) → some_suffix (wildcard (symbol ∷ symbols)) bytes ≡ some_suffix (wildcard (symbol ∷ symbols)) (drop place bytes)
+seek-to symbol symbols bytes place star any le none =
+    some_suffix-skip (wildcard (symbol ∷ symbols)) bytes place le (λ k lt. first_byte-none symbol symbols bytes k star any (omega arith) (none k lt))
+
+pub seek-empty : (symbols bytes : List ℕ) → length symbols < 1 → some_suffix (wildcard symbols) bytes ≡ wildcard symbols []
+seek-empty [] bytes none = seek-end bytes
+seek-empty (symbol ∷ symbols) bytes none = absurd (omega arith)
+
+-- the first place of a byte, or the end
+found-before : (symbol : ℕ) (bytes : List ℕ) (r : Option ℕ) → IsFirstByte (is_byte symbol) bytes r → (unwrap_or r (length bytes) ≤ length bytes) × ((k : ℕ) → k < unwrap_or r (length bytes) → eqb (get_or bytes k 0) symbol ≡ false)
+found-before symbol bytes (Some place) found =
+    let high = found.0.high in (omega arith, λ k lt. false_from_ne_true _ (found.0.before k (omega arith) lt))
+found-before symbol bytes None found = (omega arith, λ k lt. false_from_ne_true _ (found k (omega arith) lt))
+
+pub seek-found : (symbols bytes : List ℕ) (r : Option ℕ) (place : ℕ) → 1 ≤ length symbols → (get_or symbols 0 0 ≡ 42 → ⊥) → (get_or symbols 0 0 ≡ 63 → ⊥) → IsFirstByte (is_byte (get_or symbols 0 0)) bytes r → place ≡ unwrap_or r (length bytes) → some_suffix (wildcard symbols) bytes ≡ some_suffix (wildcard symbols) (take (length bytes - place) (drop place bytes))
+seek-found [] bytes r place some star any found is = absurd (omega arith)
+seek-found (symbol ∷ symbols) bytes r place some star any found is =
+    let before = found-before symbol bytes r found in
+    let le : place ≤ length bytes = omega (arith, before.0) in
+    let rest : take (length bytes - place) (drop place bytes) ≡ drop place bytes = grind (arith, common_steps) in
+    rw rest (seek-to symbol symbols bytes place (ne_eqb symbol 42 star) (ne_eqb symbol 63 any) le (λ k lt. before.1 k (omega arith)))
+
+-- ---- a pattern of two parts
+
+split-pieces : (front back : List ℕ) (pieces : List (List ℕ)) → AllZip StandsFor (front ++ back) pieces → (a : List ℕ) × (b : List ℕ) × (concat pieces ≡ a ++ b) × Matches front a × Matches back b
+split-pieces [] back pieces each =
+    ([], concat pieces, refl, record { pieces = []; each = tt; whole = refl }, record { pieces = pieces; each = each; whole = refl })
+split-pieces (symbol ∷ front) back [] each = absurd each
+split-pieces (symbol ∷ front) back (piece ∷ pieces) each =
+    let more = split-pieces front back pieces each.1 in (
+      piece ++ more.0,
+      more.1,
+      ap (λ s. piece ++ s) more.2 ∙ sym (append_assoc piece more.0 more.1),
+      record {
+        pieces = piece ∷ more.3.pieces;
+        each = (each.0, more.3.each);
+        whole = ap (λ s. piece ++ s) more.3.whole;
+      },
+      more.4,
+    )
+
+join-pieces : (front back : List ℕ) (ps qs : List (List ℕ)) → AllZip StandsFor front ps → AllZip StandsFor back qs → AllZip StandsFor (front ++ back) (ps ++ qs)
+join-pieces [] back [] qs f b = b
+join-pieces [] back (p ∷ ps) qs f b = absurd f
+join-pieces (symbol ∷ front) back [] qs f b = absurd f
+join-pieces (symbol ∷ front) back (p ∷ ps) qs f b = (f.0, join-pieces front back ps qs f.1 b)
+
+concat-append : (ps qs : List (List ℕ)) → concat (ps ++ qs) ≡ concat ps ++ concat qs
+concat-append [] qs = refl
+concat-append (p ∷ ps) qs = ap (λ s. p ++ s) (concat-append ps qs) ∙ sym (append_assoc p (concat ps) (concat qs))
+
+pub Matches-append : (front back item : List ℕ) → (Matches (front ++ back) item → (a : List ℕ) × (b : List ℕ) × (item ≡ a ++ b) × Matches front a × Matches back b)
+    × (((a : List ℕ) × (b : List ℕ) × (item ≡ a ++ b) × Matches front a × Matches back b) → Matches (front ++ back) item)
+Matches-append front back item = (
+  λ m. let parts = split-pieces front back m.pieces m.each in (parts.0, parts.1, sym m.whole ∙ parts.2, parts.3, parts.4),
+  λ parts. record {
+    pieces = parts.3.pieces ++ parts.4.pieces;
+    each = join-pieces front back parts.3.pieces parts.4.pieces parts.3.each parts.4.each;
+    whole = concat-append parts.3.pieces parts.4.pieces ∙ (ap (λ s. s ++ concat parts.4.pieces) parts.3.whole ∙ (ap (λ s. parts.0 ++ s) parts.4.whole ∙ sym parts.2));
+  },
+)

@@ -16,6 +16,7 @@ pub struct OpFn {
 }
 
 impl OpFn {
+    /// The item function of an operation, not called yet.
     pub fn new(alloc: Global, op: ItemOp) -> OpFn
         ensures value { ⟦<OpFn as ItemFn>⟧.value result ≡ value_of op }
         ensures called { ⟦<OpFn as ItemFn>⟧.called result ≡ [] }

@@ -1,5 +1,7 @@
-ghost use Rattle.std.specs.Prelude.{◌≡◌, ◌≢◌, ◌∷◌, IfSome, IfNone, slice_index};
-ghost use Rattle.qtc_ops.specs.Wildcards.{fits as fits_byte, CannotFit, TakesOne, wildcard};
+ghost use Rattle.std.specs.Prelude.{◌≡◌, ◌≢◌, ◌≤◌, ◌∷◌, IfSome, IfNone, length, slice_index};
+ghost use Rattle.qtc_ops.specs.Wildcards.{fits as fits_byte, CannotFit, some_suffix, TakesOne, wildcard};
+
+use memchr::memchr;
 
 /// Whether a symbol of a pattern other than `*` stands for the byte.
 fn fits(symbol: u8, byte: u8) -> bool
@@ -32,12 +34,28 @@ fn after_one<'a>(symbols: &'a [u8], bytes: &'a [u8]) -> Option<(&'a [u8], &'a [u
     }
 }
 
+/// The bytes from the first place on where the symbols after a `*` may match, as their first one tells: where
+/// that is a byte, it stands there, and no symbols match at the end.
+fn seek<'a>(symbols: &[u8], bytes: &'a [u8]) -> &'a [u8]
+    ensures same { some_suffix (wildcard symbols.now) bytes.now ≡ some_suffix (wildcard symbols.now) result.now }
+    ensures shorter { length result.now ≤ length bytes.now }
+{
+    match symbols {
+        [] => &[],
+        [symbol, ..] if *symbol != b'*' && *symbol != b'?' => {
+            let place = memchr(*symbol, bytes).unwrap_or(bytes.len());
+            &bytes[place..]
+        }
+        _ => bytes,
+    }
+}
+
 /// Whether `pattern` matches the whole item: `*` stands for any run of bytes, the empty one too, `?` for any
 /// one byte, and every other byte for itself.
 ///
-/// It goes over the item once, and back only to where the last `*` can take one byte more, as no earlier `*`
-/// has to be tried again. So it mostly takes about as many steps as the item has bytes, and at most as many
-/// as the product of one more than the item's length and one more than the pattern's.
+/// It goes over the item once, and back only to where the last `*` can take more bytes, as no earlier `*` has to
+/// be tried again. So it mostly takes about as many steps as the item has bytes, fewer where a byte follows each
+/// `*`, and at most as many as the product of one more than the item's length and one more than the pattern's.
 pub fn matches_pattern(pattern: &[u8], item: &[u8]) -> bool
     ensures { result ≡ wildcard pattern.now item.now }
 {
@@ -49,9 +67,10 @@ pub fn matches_pattern(pattern: &[u8], item: &[u8]) -> bool
     let mut from: &[u8] = &[];
     'steps: loop {
         if let Some(rest) = after_star(symbols) {
-            symbols = rest;
+            from = seek(rest, bytes);
             after = rest;
-            from = bytes;
+            symbols = rest;
+            bytes = from;
         } else if let Some((symbols_left, bytes_left)) = after_one(symbols, bytes) {
             symbols = symbols_left;
             bytes = bytes_left;
@@ -60,7 +79,7 @@ pub fn matches_pattern(pattern: &[u8], item: &[u8]) -> bool
         } else if from.is_empty() {
             return false;
         } else {
-            from = &from[1..];
+            from = seek(after, &from[1..]);
             symbols = after;
             bytes = from;
         }

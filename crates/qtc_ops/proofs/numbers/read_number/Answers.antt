@@ -1,7 +1,5 @@
-use Rattle.std.proofs.Common.{◌≡◌, ℕ, List, Bool, true, false, cond, Option, Some, None, ◌↔◌, IsSome, IfSome, Decides, refl, sym, ap, ◌∙◌, ⊎_elim}
+use Rattle.std.proofs.Common.{◌≡◌, ℕ, Bool, true, false, cond, Option, Some, None, ◌↔◌, IsSome, IfSome, Decides, refl, ap}
 use Rattle.std.proofs.lemmas.Bool.{false≢true}
-use Rattle.qtc_base.specs.Decimal.{IsNumber, number_of}
-use Rattle.qtc_ops.specs.Numbers.{is_number}
 use Rattle.qtc_ops.proofs.NumberLemmas.{is_number-decides}
 use Rattle.qtc_ops.proofs.numbers.read_number.Goals as goal
 

@@ -1,4 +1,4 @@
-use Rattle.std.proofs.Common.{ℕ, ◌+◌, ◌*◌, length, max}
+use Rattle.std.proofs.Common.{◌+◌, ◌*◌, length, max}
 use Rattle.qtc_ops.proofs.WildcardLemmas.{Tries}
 use Rattle.qtc_ops.proofs.wildcards.matches_pattern.Given as goal
 

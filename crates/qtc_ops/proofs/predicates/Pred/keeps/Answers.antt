@@ -1,5 +1,4 @@
-use Rattle.std.proofs.Common.{◌≡◌, sym, ap, ◌∙◌, rules}
-use Rattle.qtc_ops.specs.Predicates.{keeps}
+use Rattle.std.proofs.Common.{◌∙◌, rules}
 use Rattle.qtc_ops.proofs.PredicateLemmas.{found-test, exactly-from_test}
 use Rattle.qtc_ops.proofs.predicates.Pred.keeps.Goals as goal
 

@@ -1,0 +1,4 @@
+use Rattle.qtc_lock.proofs.tests.seated.Tally.new.Given as goal
+
+abbrev pub ghosts-locked : goal.ghosts-locked
+ghosts-locked a = record { key = record { table = a.counter.seat.table_id; start = a.start } }

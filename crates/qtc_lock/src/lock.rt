@@ -1,0 +1,141 @@
+//! The lock: one word, which is 1 while the value is out, and one slot for the value.
+ghost use Rattle.std.specs.Prelude.{◌≡◌, true, [], ◌∷◌, IfOk, IfErr, None};
+
+use crate::key::{GhostKey, Keyed, Names};
+use crate::rule::{Law, Put, Try, View};
+use atomic_table::{Refused, Seat, Table};
+use std::alloc::Global;
+use std::hint::spin_loop;
+use std::sync::Wait;
+use std::thread::yield_now;
+
+// Pauses before a thread that waits begins to yield.
+const SPINS: u32 = 16;
+
+/// A lock with one key for good. A value that is not `Drop` leaves it by `close`.
+#[derive(Drop)]
+pub struct KeyLock<S: Keyed> {
+    table: Table<Option<S>, View<S::Key>, GhostKey<S::Key>, Law<S>, Global>,
+    ghost sized: { (table.shared.table_id.words ≡ 1) × (table.shared.table_id.slots ≡ 1) },
+}
+
+/// The right to put a value back, which one `take` has given and one `put` ends. It has no bytes.
+pub struct Hold<S: Keyed> {
+    seat: Seat<Option<S>, View<S::Key>>,
+}
+
+impl<S: Keyed> KeyLock<S> {
+    ghost use Rattle.qtc_lock.specs.Lock.{key_of, IsOf};
+    ghost use Rattle.qtc_lock.specs.Rule.{idle, Has};
+
+    /// A lock over the value, under the key that `N` names. `Err` is want of memory, and hands the value back.
+    pub fn new<N: Names<S::Key>>(alloc: Global, value: S) -> Result<KeyLock<S>, S>
+        requires { S.fits N.key value }
+        ensures ok { IfOk result (λ lock. key_of lock ≡ N.key) }
+        ensures err { IfErr result (λ back. back ≡ value) }
+    {
+        let Ok(mut slots) = Vec::with_capacity(alloc, 1) else {
+            return Err(value);
+        };
+        slots.push_reserved(Some(value));
+        let key = GhostKey::named();
+        match Table::new(alloc, &[0], slots, &key) {
+            Ok((table, _seat)) => Ok(KeyLock { table }),
+            Err(Refused { slots }) => Err(only(slots)),
+        }
+    }
+
+    /// The value, and the right to put one back. While the value is out, it pauses a few times and then yields, each
+    /// time before it looks again.
+    pub fn take<R: Wait>(&self, rt: &R) -> (S, Hold<S>)
+        ensures fits { S.fits (key_of self.now) result.0 }
+        ensures hold { IsOf self.now result.1 }
+    {
+        let (found, seat) = self.table.shared.swap_new_seat::<Try>(0, 1);
+        if found == 0 {
+            self.gain(seat)
+        } else {
+            self.gain(self.wait(rt, seat))
+        }
+    }
+
+    // Takes the value out of the slot, which the seat has.
+    fn gain(&self, mut seat: Seat<Option<S>, View<S::Key>>) -> (S, Hold<S>)
+        requires { (seat.table_id ≡ self.now.table.shared.table_id) × Has S.fits (key_of self.now) seat.me }
+        ensures fits { S.fits (key_of self.now) result.0 }
+        ensures hold { IsOf self.now result.1 }
+    {
+        let value = self.table.shared.exchange(&mut seat, 0, None).unwrap();
+        (value, Hold { seat })
+    }
+
+    // Tries with one seat, however often, since the view of each new seat would stay in the rule for good.
+    fn wait<R: Wait>(
+        &self,
+        rt: &R,
+        mut seat: Seat<Option<S>, View<S::Key>>,
+    ) -> Seat<Option<S>, View<S::Key>>
+        requires { (seat.table_id ≡ self.now.table.shared.table_id) × (seat.me ≡ (idle (key_of self.now), [])) }
+        ensures { (result.table_id ≡ self.now.table.shared.table_id) × Has S.fits (key_of self.now) result.me }
+    {
+        let mut rounds = 0;
+        for _ in rt.forever() {
+            rounds = back_off(rounds);
+            if self.table.shared.peek(0) == 0
+                && self.table.shared.swap::<Try>(&mut seat, 0, 1) == 0
+            {
+                return seat;
+            }
+        }
+        unreachable!()
+    }
+
+    /// Gives the lock a value again, for whoever takes it next. It takes no memory and waits for nobody.
+    pub fn put(&self, value: S, hold: Hold<S>)
+        requires fits { S.fits (key_of self.now) value }
+        requires hold { IsOf self.now hold }
+    {
+        let Hold { mut seat } = hold;
+        let out = self.table.shared.exchange(&mut seat, 0, Some(value));
+        let None = out else { unreachable!() };
+        self.table.shared.store::<Put>(&mut seat, 0, 0);
+    }
+
+    /// Ends the lock, and gives its value. Where a `Hold` was never put back it waits for ever, as `take` would.
+    pub fn close<R: Wait>(self, rt: &R) -> S
+        ensures { S.fits (key_of self) result }
+    {
+        let KeyLock { table } = self;
+        let mut closed = table.close();
+        if closed.word(0) == 0 {
+            let value = closed.take(0).unwrap();
+            closed.free();
+            return value;
+        }
+        for _ in rt.forever() {
+            yield_now();
+        }
+        unreachable!()
+    }
+}
+
+// Pauses or yields, and counts the pauses.
+fn back_off(rounds: u32) -> u32 {
+    if rounds < SPINS {
+        spin_loop();
+        rounds + 1
+    } else {
+        yield_now();
+        rounds
+    }
+}
+
+// The value of the one slot.
+fn only<S>(mut slots: Vec<Option<S>>) -> S
+    requires { (value : S) × (slots.items ≡ Some value ∷ []) }
+    ensures { slots.items ≡ Some result ∷ [] }
+{
+    let value = slots.pop().unwrap().unwrap();
+    slots.destroy_empty();
+    value
+}

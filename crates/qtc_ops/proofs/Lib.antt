@@ -1,0 +1,4 @@
+pub mod FieldLemmas
+pub mod NumberLemmas
+pub mod PredicateLemmas
+pub mod WildcardLemmas

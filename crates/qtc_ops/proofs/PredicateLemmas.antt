@@ -1,0 +1,56 @@
+-- The tests of predicates against what they keep.
+use Rattle.std.proofs.Common.{◌≡◌, ℕ, ◌+◌, ◌≤◌, ◌<◌, Bool, true, false, nat_eq, ltb, List, length, take, drop, get_or, get_or-drop, Option, Some, None, is_some, Decides, refl, sym, ap, ◌∙◌, arith}
+use Rattle.std.specs.List.{starts_with}
+use Rattle.std.specs.Cmp.Lexicographic.{bytes_decides}
+use Rattle.std.proofs.lemmas.List.Prefix.{at_from_reads, at_reads, front_reads}
+use Rattle.std.proofs.lemmas.List.{take-append-drop}
+use Rattle.std.proofs.lemmas.Bool.Decides.{Decides-ltb, Decides-at, same_from_decides}
+use Rattle.std.proofs.lemmas.Grind.{common_steps}
+use Rattle.std.proofs.lemmas.Bool.{false≢true}
+use Rattle.memchr.specs.Find.{OccursAt, FindsNeedle}
+use Rattle.qtc_ops.specs.Wildcards.{some_suffix}
+use Rattle.qtc_ops.specs.declared.predicates.Pred.{Pred}
+use Rattle.qtc_ops.specs.declared.predicates.Pred.TheVariants.{Contains, Wildcard, Longer}
+use Rattle.qtc_ops.specs.Predicates.{keeps, Keeps}
+use Rattle.qtc_ops.proofs.WildcardLemmas.{some_suffix-from, some_suffix-to, wildcard-decides}
+
+-- a byte of what is at the front
+get_or-front : (literal item : List ℕ) (k j : ℕ) → j < length literal → literal ≡ take (length literal) (drop k item) → get_or literal j 0 ≡ get_or (drop k item) j 0
+get_or-front literal item k j lt front = ap (λ s. get_or s j 0) front ∙ grind (arith, common_steps)
+
+-- the literal stands in the item at a place just where what is left from there begins with it
+starts-occurs : (item literal : List ℕ) (k : ℕ) → k ≤ length item → starts_with nat_eq (drop k item) literal ≡ true → OccursAt item literal k
+starts-occurs item literal k le h =
+    let front : literal ≡ take (length literal) (drop k item) = (bytes_decides literal (take (length literal) (drop k item))).0 h in
+    let size : length literal ≤ length (drop k item) = grind (arith, common_steps) in
+    record {
+      fits = grind (arith, common_steps);
+      reads = λ j lt. sym (get_or-drop k item j 0) ∙ sym (get_or-front literal item k j lt front);
+    }
+
+occurs-starts : (item literal : List ℕ) (k : ℕ) → OccursAt item literal k → starts_with nat_eq (drop k item) literal ≡ true
+occurs-starts item literal k o =
+    let from = at_from_reads 0 item literal k o.fits o.reads in
+    (bytes_decides literal (take (length literal) (drop k item))).1 (grind (arith, common_steps))
+
+contains-decides : (item literal : List ℕ) → Decides (some_suffix (λ suffix. starts_with nat_eq suffix literal) item) ((place : ℕ) × OccursAt item literal place)
+contains-decides item literal = (
+  λ h. let found = some_suffix-to (λ suffix. starts_with nat_eq suffix literal) item h in (found.0, starts-occurs item literal found.0 found.1 found.2),
+  λ o. let fits = o.1.fits in some_suffix-from (λ suffix. starts_with nat_eq suffix literal) item o.0 (omega arith) (occurs-starts item literal o.0 o.1),
+)
+
+pub keeps-decides : (pred : Pred) (item : List ℕ) → Decides (keeps pred item) (Keeps pred item)
+keeps-decides (Contains literal) item = contains-decides item literal
+keeps-decides (Wildcard pattern) item = wildcard-decides pattern item
+keeps-decides (Longer bound) item = Decides-ltb bound (length item)
+
+-- a search finds a place just where there is one
+found-decides : (item literal : List ℕ) (r : Option ℕ) → FindsNeedle item literal 0 r → Decides (is_some r) ((place : ℕ) × OccursAt item literal place)
+found-decides item literal (Some place) f = (λ _. (place, f.1), λ _. refl)
+found-decides item literal None f = (λ e. absurd (false≢true e), λ o. let fits = o.1.fits in absurd (f o.0 (omega arith) (omega arith) o.1))
+
+pub found-test : (item literal : List ℕ) (r : Option ℕ) → FindsNeedle item literal 0 r → is_some r ≡ keeps (Contains literal) item
+found-test item literal r f = same_from_decides _ _ (found-decides item literal r f) (contains-decides item literal)
+
+pub exactly-from_test : (pred : Pred) (item : List ℕ) (r : Bool) → r ≡ keeps pred item → (r ≡ true → Keeps pred item) × (Keeps pred item → r ≡ true)
+exactly-from_test pred item r e = Decides-at r (keeps pred item) e (keeps-decides pred item)

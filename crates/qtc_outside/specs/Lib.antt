@@ -1,0 +1,10 @@
+-- What reading and writing mean.
+pub mod Counts
+pub mod MemSink
+pub mod MemTexts
+pub mod Reading
+pub mod Shelf
+pub mod ShelfLeft
+pub mod SureSink
+pub mod SureTexts
+pub mod Writing

@@ -1,6 +1,6 @@
 -- The first index without a result.
-use Rattle.std.proofs.Common.{◌≡◌, ℕ, zero, suc, ◌+◌, ◌-◌, ◌<◌, ◌≤◌, max, ◌==◌, Bool, true, false, ◌||◌, nat_lt, List, [], ◌∷◌, ◌++◌, length, get_or, take, map, All, Option, Some, None, is_some, ◌⊎◌, inl, inr, cond, refl, ap, sym, ◌∙◌, subst, eq-eqb, arith}
-use Rattle.std.specs.List.{find as find_first, range_with_len, flat_map, enumerate_from, prefix_len, take_while}
+use Rattle.std.proofs.Common.{◌≡◌, ℕ, ◌+◌, ◌<◌, ◌≤◌, max, Bool, true, false, ◌||◌, List, [], ◌∷◌, ◌++◌, length, All, Option, Some, None, is_some, inl, inr, refl, ap, ◌∙◌, eq-eqb, arith}
+use Rattle.std.specs.List.{range_with_len, flat_map, enumerate_from}
 use Rattle.std.specs.Ordering.{nat_cmp}
 use Rattle.std.specs.FinMap.{find, get, contains_key}
 use Rattle.std.proofs.lemmas.Bool.{cases_lt, ne_eqb, cases_eq}
@@ -11,11 +11,11 @@ use Rattle.std.proofs.lemmas.List.Sums.{prefix_len_is}
 use Rattle.std.proofs.lemmas.List.Folds.{length-prefix_len}
 use Rattle.qtc_store.specs.declared.batch.Batch.{Batch}
 use Rattle.qtc_store.specs.Batches.{end_of, covers, is_covered, greatest_end, AreApart, IsWhole}
-use Rattle.qtc_store.specs.Stored.{Stored, IsStore, IsFirstGap, count_of}
+use Rattle.qtc_store.specs.Stored.{IsStore, IsFirstGap, count_of}
 use Rattle.qtc_store.proofs.Meeting.{meeting_end-next, meeting_end-stop}
 use Rattle.qtc_store.specs.Results.{cells_of, results, result_count}
 use Rattle.qtc_store.specs.Visible.{meeting_end}
-use Rattle.qtc_store.proofs.Covered.{none_below, apart_lower}
+use Rattle.qtc_store.proofs.Covered.{none_below}
 use Rattle.qtc_store.proofs.Cells.{find-before, find-past, find-at, results_found}
 
 or_true : (b : Bool) → (b || true) ≡ true
@@ -96,7 +96,7 @@ end_uncovered low (b ∷ batches) a =
     ]
 
 -- ---- the count of a plain store
-has_result : {V : Type 0} (batches : List (Batch V)) (index : ℕ) → All IsFull batches → is_some (get (results batches) index) ≡ is_covered batches index
+pub has_result : {V : Type 0} (batches : List (Batch V)) (index : ℕ) → All IsFull batches → is_some (get (results batches) index) ≡ is_covered batches index
 has_result batches index full = ap is_some (results_found batches index) ∙ found_covered index batches full
 
 pub result_count-meeting : {V : Type 0} (batches : List (Batch V)) → AreApart 0 batches → All IsFull batches → result_count batches ≡ meeting_end 0 batches
@@ -114,7 +114,7 @@ result_count-meeting batches apart full =
 pub full_from : {V : Type 0} (batches : List (Batch V)) → All (IsWhole false) batches → All IsFull batches
 full_from {V = V} batches whole = All-weaker (IsWhole {V = V} false) (IsFull {V = V}) (λ b w. w.whole refl) batches whole
 
-none_from : {V : Type 0} (o : Option V) → is_some o ≡ false → o ≡ None
+pub none_from : {V : Type 0} (o : Option V) → is_some o ≡ false → o ≡ None
 none_from None e = refl
 none_from (Some v) e = absurd (cc)
 

@@ -1,17 +1,17 @@
 -- Additions offered one after the other.
-use Rattle.std.proofs.Common.{◌≡◌, ℕ, zero, suc, ◌+◌, ◌<◌, max, ◌==◌, Bool, true, false, ◌&&◌, ◌||◌, nat_lt, nat_eq, cond, List, [], ◌∷◌, ◌++◌, length, Option, Some, None, is_none, unwrap_or, fold, ◌⊎◌, inl, inr, refl, ap, sym, ◌∙◌, arith}
+use Rattle.std.proofs.Common.{◌≡◌, ℕ, ◌+◌, max, Bool, true, false, ◌&&◌, ◌||◌, nat_lt, nat_eq, cond, List, [], ◌∷◌, ◌++◌, Some, is_none, unwrap_or, fold, inl, inr, refl, ap, sym, ◌∙◌, arith}
 use Rattle.std.specs.List.{find, range_with_len}
 use Rattle.std.proofs.lemmas.Bool.{cases_lt}
 use Rattle.std.proofs.lemmas.Bool.Decides.{nat_tests}
 use Rattle.qtc_store.specs.declared.batch.Batch.{Batch}
 use Rattle.qtc_store.specs.declared.batch.Addition.{Addition}
-use Rattle.qtc_store.specs.Batches.{end_of, covers, is_covered, least_covered, greatest_end, placed, in_order}
+use Rattle.qtc_store.specs.Batches.{covers, is_covered, least_covered, greatest_end, placed, in_order}
 use Rattle.qtc_store.specs.Stored.{Stored, refusal, refusal_of, with_batch}
-use Rattle.qtc_store.specs.Adds.{batch_of, is_accepted, accepted_with, accepted_of, offered}
+use Rattle.qtc_store.specs.Adds.{batch_of, accepted_with, accepted_of, offered}
 use Rattle.qtc_store.proofs.Placed.{placed-before, placed-after, greatest_end-placed}
 
 -- ---- a fold and one element more
-fold_push : {A B : Type 0} (f : B → A → B) (start : B) (xs : List A) (x : A) → fold f start (xs ++ x ∷ []) ≡ f (fold f start xs) x
+pub fold_push : {A B : Type 0} (f : B → A → B) (start : B) (xs : List A) (x : A) → fold f start (xs ++ x ∷ []) ≡ f (fold f start xs) x
 fold_push f start [] x = refl
 fold_push f start (y ∷ xs) x = fold_push f (f start y) xs x
 
@@ -73,13 +73,13 @@ taken_up filter accepted b false = refl
 taken_up filter accepted b true =
     elim (cases_lt 0 b.total) [
       | inl some ↦
-        let not_zero : nat_eq b.total 0 ≡ false = grind (arith, nat_tests) in
-        let above : nat_lt 0 b.total ≡ true = grind (arith, nat_tests) in
-        rw (not_zero, above) (ap (λ xs. record { filter = filter; batches = xs }) (sym (fold_push placed [] accepted b)))
+          let not_zero : nat_eq b.total 0 ≡ false = grind (arith, nat_tests) in
+          let above : nat_lt 0 b.total ≡ true = grind (arith, nat_tests) in
+          rw (not_zero, above) (ap (λ xs. record { filter = filter; batches = xs }) (sym (fold_push placed [] accepted b)))
       | inr none ↦
-        let is_zero : nat_eq b.total 0 ≡ true = grind (arith, nat_tests) in
-        let above : nat_lt 0 b.total ≡ false = grind (arith, nat_tests) in
-        rw (is_zero, above) refl
+          let is_zero : nat_eq b.total 0 ≡ true = grind (arith, nat_tests) in
+          let above : nat_lt 0 b.total ≡ false = grind (arith, nat_tests) in
+          rw (is_zero, above) refl
     ]
 
 pub offered_accepted : {V : Type 0} (filter : Bool) (accepted : List (Batch V)) (addition : Addition V) → offered (record { filter = filter; batches = in_order accepted }) addition ≡ record { filter = filter; batches = in_order (accepted_with accepted addition) }

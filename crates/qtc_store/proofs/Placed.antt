@@ -1,9 +1,9 @@
 -- A batch put in its place keeps what is true of the batches.
-use Rattle.std.proofs.Common.{◌≡◌, ℕ, zero, suc, ◌+◌, ◌<◌, ◌≤◌, max, Bool, true, false, ◌||◌, nat_lt, List, [], ◌∷◌, length, take, drop, All, Option, Some, None, ◌⊎◌, inl, inr, cond, refl, ap, sym, ◌∙◌, subst, arith}
+use Rattle.std.proofs.Common.{◌≡◌, ℕ, zero, suc, ◌+◌, ◌<◌, ◌≤◌, max, Bool, true, false, ◌||◌, nat_lt, List, [], ◌∷◌, All, Some, None, inl, inr, cond, refl, ap, sym, ◌∙◌, subst, arith}
 use Rattle.std.specs.List.{find, range_with_len}
-use Rattle.std.proofs.lemmas.Bool.{cases_lt, false≢true}
+use Rattle.std.proofs.lemmas.Bool.{cases_lt}
 use Rattle.std.proofs.lemmas.Bool.Decides.{nat_tests}
-use Rattle.std.proofs.lemmas.List.Elements.{All-cons, All-head, All-tail, All-nil}
+use Rattle.std.proofs.lemmas.List.Elements.{All-cons, All-head, All-tail}
 use Rattle.qtc_store.specs.declared.batch.Batch.{Batch}
 use Rattle.qtc_store.specs.Batches.{end_of, covers, is_covered, least_covered, greatest_end, placed, AreApart, IsWhole}
 use Rattle.qtc_store.specs.Stored.{IsStore}
@@ -33,10 +33,10 @@ or_left a b h = grind arith
 or_right : (a b : Bool) → (a || b) ≡ false → b ≡ false
 or_right a b h = grind arith
 
-free_first : {V : Type 0} (first : Batch V) (batches : List (Batch V)) (begin end index : ℕ) → IsFree (first ∷ batches) begin end → begin ≤ index → index < end → covers index first ≡ false
+pub free_first : {V : Type 0} (first : Batch V) (batches : List (Batch V)) (begin end index : ℕ) → IsFree (first ∷ batches) begin end → begin ≤ index → index < end → covers index first ≡ false
 free_first first batches begin end index f above below = or_left _ (is_covered batches index) (f.free index above below)
 
-free_rest : {V : Type 0} (first : Batch V) (batches : List (Batch V)) (begin end : ℕ) → IsFree (first ∷ batches) begin end → IsFree batches begin end
+pub free_rest : {V : Type 0} (first : Batch V) (batches : List (Batch V)) (begin end : ℕ) → IsFree (first ∷ batches) begin end → IsFree batches begin end
 free_rest first batches begin end f = record { free = λ index above below. or_right (covers index first) _ (f.free index above below) }
 
 -- ---- in its place
@@ -46,7 +46,7 @@ placed-before first batches b h = let is : nat_lt b.begin first.begin ≡ true =
 pub placed-after : {V : Type 0} (first : Batch V) (batches : List (Batch V)) (b : Batch V) → first.begin ≤ b.begin → placed (first ∷ batches) b ≡ first ∷ placed batches b
 placed-after first batches b h = let is : nat_lt b.begin first.begin ≡ false = grind (arith, nat_tests) in rw is refl
 
-not_covered : {V : Type 0} (first : Batch V) (index : ℕ) → covers index first ≡ false → first.begin ≤ index → end_of first ≤ index
+pub not_covered : {V : Type 0} (first : Batch V) (index : ℕ) → covers index first ≡ false → first.begin ≤ index → end_of first ≤ index
 not_covered first index out low = grind (arith, nat_tests)
 
 pub apart_placed : {V : Type 0} (low : ℕ) (batches : List (Batch V)) (b : Batch V) → AreApart low batches → low ≤ b.begin → 0 < b.total → IsFree batches b.begin (end_of b) → AreApart low (placed batches b)

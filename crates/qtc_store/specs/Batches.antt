@@ -1,5 +1,5 @@
 -- Accepted batches, in order of their begins. (After Qt's result store; that a batch is refused where any index is covered is own.)
-use Rattle.std.specs.Prelude.{ℕ, ◌+◌, ◌≤◌, ◌<◌, ◌≡◌, Bool, false, ◌&&◌, nat_lt, nat_le, max, if◌then◌else◌, Option, List, [], ◌∷◌, length, fold, All}
+use Rattle.std.specs.Prelude.{ℕ, ◌+◌, ◌≤◌, ◌<◌, ◌≡◌, Bool, false, ◌&&◌, nat_lt, nat_le, max, if◌then◌else◌, Option, List, [], ◌∷◌, length, fold}
 use Rattle.std.specs.List.{list_any, find, range_with_len}
 use Rattle.qtc_store.specs.declared.batch.Batch.{Batch}
 

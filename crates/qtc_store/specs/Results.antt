@@ -1,5 +1,5 @@
 -- The results of a plain store: a finite map from indexes to values. (After Qt's ResultStoreBase.)
-use Rattle.std.specs.Prelude.{ℕ, ◌+◌, Bool, List, map, length}
+use Rattle.std.specs.Prelude.{ℕ, List, map, length}
 use Rattle.std.specs.List.{flat_map, enumerate_from, take_while, range_with_len}
 use Rattle.std.specs.Ordering.{nat_cmp}
 use Rattle.std.specs.FinMap.{FinMap, from_entries, contains_key}

@@ -1,5 +1,6 @@
 -- What a store is seen as: its mode, and its accepted batches in order of their begins.
-use Rattle.std.specs.Prelude.{ℕ, ◌≡◌, ◌+◌, ◌<◌, ◌≤◌, ◌==◌, nat_lt, Bool, if◌then◌else◌, Option, Some, None, IsSome, List, length, slice_get, All}
+use Rattle.std.specs.Prelude.{ℕ, ◌≡◌, ◌+◌, ◌<◌, ◌≤◌, ◌==◌, ◌&&◌, nat_lt, nat_le, Bool, if◌then◌else◌, Option, Some, None, IsSome, is_some, List, [], ◌∷◌, length, slice_get, All}
+use Rattle.std.specs.List.{list_any}
 use Rattle.std.specs.FinMap.{get}
 use Rattle.qtc_base.specs.declared.ranges.Range.{Range}
 use Rattle.qtc_store.specs.declared.batch.Batch.{Batch}
@@ -26,6 +27,20 @@ count_of store = if store.filter then length (visible store.batches) else result
 abbrev pub ranges_of : {V : Type 0} → Stored V → List (ℕ × ℕ)
 ranges_of store = if store.filter then visible_ranges store.batches else result_ranges store.batches
 
+-- the number lies between the bounds of a range
+abbrev pub in_range : ℕ → ℕ × ℕ → Bool
+in_range number range = nat_le range.0 number && nat_lt number range.1
+
+-- none of the ranges is empty, and each begins where the one before ends or later
+abbrev pub AreRising : ℕ → List (ℕ × ℕ) → Type 0
+AreRising low [] = Unit {0}
+AreRising low (range ∷ ranges) = (low ≤ range.0) × (range.0 < range.1) × AreRising range.1 ranges
+
+-- ranges that hold the numbers of the results and no others, each once
+pub record AreRangesOf {V : Type 0} (store : Stored V) (ranges : List (ℕ × ℕ)) : Type 0 where
+  pub rising : AreRising 0 ranges
+  pub just : (number : ℕ) → list_any (in_range number) ranges ≡ is_some (value_at store number)
+
 -- why a batch is refused, want of memory apart: the least index of it that is covered, or its end
 abbrev pub refusal : Option ℕ → ℕ → Option AddFault
 refusal (Some index) end = Some (Taken index)
@@ -38,6 +53,15 @@ refusal_of batches begin total = refusal (least_covered batches begin total) (be
 pub record IsFirstGap {V : Type 0} (store : Stored V) (number : ℕ) : Type 0 where
   pub below : (index : ℕ) → index < number → IsSome (value_at store index)
   pub gap : value_at store number ≡ None
+
+-- no result that was there moves or changes
+abbrev pub KeepsResults : {V : Type 0} → Stored V → Stored V → Type 0
+KeepsResults {V} old new = (index : ℕ) (value : V) → value_at old index ≡ Some value → value_at new index ≡ Some value
+
+-- the values of the results below the count, in order
+pub record IsFirstResults {V : Type 0} (store : Stored V) (values : List V) : Type 0 where
+  pub all : length values ≡ count_of store
+  pub each : (index : ℕ) → index < length values → slice_get values index ≡ value_at store index
 
 -- with a batch that is accepted; one that covers nothing adds nothing
 abbrev pub with_batch : {V : Type 0} → Stored V → Batch V → Stored V

@@ -3,8 +3,12 @@
 #![tactic(auto)]
 
 mod batch;
+mod laws;
 mod store;
+#[cfg(test)]
+mod tests;
 mod walks;
 
 pub use batch::{AddFault, Added, Addition, Batch, MOST_END};
+pub use laws::visible_is_below_gap;
 pub use store::ResultStore;

@@ -4,7 +4,7 @@ ghost use Rattle.qtc_store.specs.Batches.{greatest_end, least_covered};
 use crate::batch::MOST_END;
 use crate::walks::{
     first_covered, greatest_end_of, meeting_end_of, meeting_len, place_of, ranges_of_batches,
-    ranges_of_visible, value_at_index, value_at_position, visible_count,
+    ranges_of_visible, value_at_index, value_at_position, visible_count, visible_values,
 };
 use crate::{AddFault, Added, Addition, Batch};
 use qtc_base::{List, NoMemory, Range};
@@ -36,7 +36,7 @@ impl<V> Model for ResultStore<V> {
 }
 
 impl<V> ResultStore<V> {
-    ghost use Rattle.qtc_store.specs.Stored.{count_of, ranges_of, value_at, refusal_of, IsFirstGap, bounds_of};
+    ghost use Rattle.qtc_store.specs.Stored.{count_of, ranges_of, value_at, refusal_of, AreRangesOf, IsFirstGap, IsFirstResults, bounds_of};
 
     /// The empty store, which takes no memory yet.
     pub fn new(alloc: Global, filter: bool) -> ResultStore<V>
@@ -98,7 +98,8 @@ impl<V> ResultStore<V> {
     /// The ranges of the stored batches, or in filter mode the positions of the visible batches that have
     /// values, ascending. Err is want of memory.
     pub fn batches(&self) -> Result<List<Range>, NoMemory>
-        ensures { IfOk result (λ ranges. map bounds_of ranges ≡ ranges_of self.now) }
+        ensures ranges { IfOk result (λ ranges. map bounds_of ranges ≡ ranges_of self.now) }
+        ensures just { IfOk result (λ ranges. AreRangesOf self.now (map bounds_of ranges)) }
     {
         let alloc = *self.batches.allocator();
         if self.filter {
@@ -106,6 +107,18 @@ impl<V> ResultStore<V> {
         } else {
             ranges_of_batches(alloc, &self.batches)
         }
+    }
+
+    /// The results below the count, in order. Err is want of memory, and drops the store.
+    pub fn into_results(self) -> Result<List<V>, NoMemory>
+    where
+        V: Drop,
+        ensures { IfOk result (λ values. IsFirstResults self values) }
+    {
+        let alloc = *self.batches.allocator();
+        let ResultStore { filter: _, batches } = self;
+        let values = visible_values(alloc, batches)?;
+        Ok(List::from_vec(values))
     }
 
     /// Why a batch would be refused, want of memory apart.
@@ -123,7 +136,7 @@ impl<V> ResultStore<V> {
 }
 
 impl<V: Drop> ResultStore<V> {
-    ghost use Rattle.qtc_store.specs.Stored.{count_of, refusal_of, with_batch};
+    ghost use Rattle.qtc_store.specs.Stored.{count_of, refusal_of, with_batch, KeepsResults};
 
     /// Stores a batch that is not refused. An Err is want of memory.
     fn insert(&mut self, batch: Batch<V>) -> Result<(), AddFault>
@@ -132,6 +145,7 @@ impl<V: Drop> ResultStore<V> {
         requires few { length batch.values ≤ batch.total }
         requires whole { self.old.filter ≡ false → length batch.values ≡ batch.total }
         ensures ok { OnOk result (self.new ≡ with_batch self.old batch) }
+        ensures kept { OnOk result (KeepsResults self.old self.new) }
         ensures memory { IfErr result (λ fault. fault ≡ AddFault.Memory) }
         ensures err { OnErr result (self.new ≡ self.old) }
     {
@@ -140,6 +154,31 @@ impl<V: Drop> ResultStore<V> {
             self.batches.insert(place, batch)?;
         }
         Ok(())
+    }
+
+    /// Stores a batch that is not refused, and tells what it did to the count. An Err is want of memory.
+    fn accept(&mut self, batch: Batch<V>) -> Result<Added, AddFault>
+        requires free { least_covered self.old.batches batch.begin batch.total ≡ None }
+        requires bounded { batch.begin + batch.total ≤ MOST_END }
+        requires few { length batch.values ≤ batch.total }
+        requires whole { self.old.filter ≡ false → length batch.values ≡ batch.total }
+        ensures ok { OnOk result (self.new ≡ with_batch self.old batch) }
+        ensures kept { OnOk result (KeepsResults self.old self.new) }
+        ensures begin { IfOk result (λ added. added.begin ≡ batch.begin) }
+        ensures old_count { IfOk result (λ added. added.old_count ≡ count_of self.old) }
+        ensures new_count { IfOk result (λ added. added.new_count ≡ count_of self.new) }
+        ensures memory { IfErr result (λ fault. fault ≡ AddFault.Memory) }
+        ensures err { OnErr result (self.new ≡ self.old) }
+    {
+        let begin = batch.begin;
+        let old_count = self.count();
+        self.insert(batch)?;
+        let new_count = self.count();
+        Ok(Added {
+            begin,
+            old_count,
+            new_count,
+        })
     }
 
     /// Adds a batch for the indexes from `begin` to `begin + total`. `Taken` comes exactly where one of them
@@ -152,6 +191,7 @@ impl<V: Drop> ResultStore<V> {
         ensures past_end { (result ≡ Err AddFault.PastEnd) ↔ ((least_covered self.old.batches begin total ≡ None) × (MOST_END < begin + total)) }
         ensures accepted { OnOk result (refusal_of self.old.batches begin total ≡ None) }
         ensures ok { OnOk result (self.new ≡ with_batch self.old (record { begin = begin; values = values; total = total })) }
+        ensures kept { OnOk result (KeepsResults self.old self.new) }
         ensures begin { IfOk result (λ added. added.begin ≡ begin) }
         ensures old_count { IfOk result (λ added. added.old_count ≡ count_of self.old) }
         ensures new_count { IfOk result (λ added. added.new_count ≡ count_of self.new) }
@@ -160,17 +200,10 @@ impl<V: Drop> ResultStore<V> {
         if let Some(fault) = self.refusal(begin, total) {
             return Err(fault);
         }
-        let old_count = self.count();
-        self.insert(Batch {
+        self.accept(Batch {
             begin,
             values,
             total,
-        })?;
-        let new_count = self.count();
-        Ok(Added {
-            begin,
-            old_count,
-            new_count,
         })
     }
 
@@ -182,6 +215,7 @@ impl<V: Drop> ResultStore<V> {
         ensures past_end { (result ≡ Err AddFault.PastEnd) ↔ ((least_covered self.old.batches (unwrap_or index (greatest_end self.old.batches)) 1 ≡ None) × (MOST_END < unwrap_or index (greatest_end self.old.batches) + 1)) }
         ensures accepted { OnOk result (refusal_of self.old.batches (unwrap_or index (greatest_end self.old.batches)) 1 ≡ None) }
         ensures ok { OnOk result (self.new ≡ with_batch self.old (record { begin = unwrap_or index (greatest_end self.old.batches); values = value ∷ []; total = 1 })) }
+        ensures kept { OnOk result (KeepsResults self.old self.new) }
         ensures begin { IfOk result (λ added. added.begin ≡ unwrap_or index (greatest_end self.old.batches)) }
         ensures old_count { IfOk result (λ added. added.old_count ≡ count_of self.old) }
         ensures new_count { IfOk result (λ added. added.new_count ≡ count_of self.new) }
@@ -191,24 +225,20 @@ impl<V: Drop> ResultStore<V> {
         if let Some(fault) = self.refusal(begin, 1) {
             return Err(fault);
         }
-        let old_count = self.count();
         let values = single(*self.batches.allocator(), value)?;
-        self.insert(Batch {
+        self.accept(Batch {
             begin,
             values,
             total: 1,
-        })?;
-        let new_count = self.count();
-        Ok(Added {
-            begin,
-            old_count,
-            new_count,
         })
     }
 }
 
 impl<V: Drop> ResultStore<V> {
+    ghost use Rattle.std.specs.FinMap.{get};
     ghost use Rattle.qtc_store.specs.Batches.{in_order};
+    ghost use Rattle.qtc_store.specs.Results.{results};
+    ghost use Rattle.qtc_store.specs.Stored.{value_at};
     ghost use Rattle.qtc_store.specs.Adds.{accepted_of, offered, Fits};
 
     /// The store after these additions, offered one after the other, the refused ones dropped. So every
@@ -219,7 +249,10 @@ impl<V: Drop> ResultStore<V> {
         additions: Vec<Addition<V>>,
     ) -> Result<ResultStore<V>, NoMemory>
         requires { All (Fits filter) additions.items }
-        ensures { IfOk result (λ store. store ≡ record { filter = filter; batches = in_order (accepted_of additions.items) }) }
+        ensures accepted { IfOk result (λ store. store ≡ record { filter = filter; batches = in_order (accepted_of additions.items) }) }
+
+        // In plain mode the order in which they came makes no difference.
+        ensures results { filter ≡ false → IfOk result (λ store. (index : ℕ) → value_at store index ≡ get (results (accepted_of additions.items)) index) }
     {
         let mut store = ResultStore::new(alloc, filter);
         for addition in additions {

@@ -129,6 +129,31 @@ pub(crate) fn visible_count<V>(batches: &[Batch<V>]) -> u32
     count
 }
 
+/// The values of the batches that meet from index 0 on, one after the other. Err is want of memory.
+pub(crate) fn visible_values<V: Drop>(
+    alloc: Global,
+    batches: Vec<Batch<V>>,
+) -> Result<Vec<V>, NoMemory>
+    requires { greatest_end batches.items ≤ MOST_END }
+    ensures { IfOk result (λ values. values.items ≡ visible batches.items) }
+{
+    let mut all = Vec::new(alloc);
+    let mut place = 0;
+    for batch in batches {
+        let Batch {
+            begin,
+            values,
+            total,
+        } = batch;
+        if begin != place {
+            return Ok(all);
+        }
+        place = begin + total;
+        all.append(&mut values.into_vec())?;
+    }
+    Ok(all)
+}
+
 /// Where the last batch ends, or 0.
 pub(crate) fn greatest_end_of<V>(batches: &[Batch<V>]) -> u32
     requires bounded { greatest_end batches.now ≤ MOST_END }

@@ -1,6 +1,5 @@
-use Rattle.std.proofs.Common.{◌≡◌, ◌+◌, ◌<◌, ◌≤◌, nat_lt, max, length, Option, Some, None, if◌then◌else◌, sym, ◌∙◌, arith}
+use Rattle.std.proofs.Common.{◌≡◌, ◌+◌, ◌<◌, ◌≤◌, max, arith}
 use Rattle.std.proofs.lemmas.Bool.Decides.{nat_tests}
-use Rattle.qtc_store.specs.Batches.{end_of, least_covered}
 use Rattle.qtc_store.proofs.Covered.{end_of-read, walk_past, walk_hit, walk_end}
 use Rattle.qtc_store.proofs.walks.first_covered.Goals as goal
 

@@ -1,4 +1,4 @@
-use Rattle.std.proofs.Common.{◌≡◌, ◌≤◌, drop}
+use Rattle.std.proofs.Common.{◌≡◌, drop}
 use Rattle.qtc_store.specs.Batches.{AreApart, least_covered}
 use Rattle.qtc_store.proofs.walks.first_covered.Given as goal
 

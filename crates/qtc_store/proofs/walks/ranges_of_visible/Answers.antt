@@ -1,7 +1,7 @@
-use Rattle.std.proofs.Common.{◌≡◌, ◌+◌, ◌++◌, length, map, drop, ap, sym, ◌∙◌, arith}
+use Rattle.std.proofs.Common.{◌+◌, ◌++◌, length, map, drop, ap, sym, ◌∙◌, arith}
 use Rattle.qtc_store.specs.Batches.{end_of}
 use Rattle.qtc_store.specs.Stored.{bounds_of}
-use Rattle.qtc_store.specs.Visible.{meeting, positions, position_ranges}
+use Rattle.qtc_store.specs.Visible.{meeting, position_ranges}
 use Rattle.qtc_store.proofs.Covered.{end_of-read}
 use Rattle.qtc_store.proofs.Meeting.{few_read, walk_next, ranges_next}
 use Rattle.qtc_store.proofs.walks.ranges_of_visible.Goals as goal

@@ -1,5 +1,4 @@
-use Rattle.std.proofs.Common.{◌≡◌, ◌+◌, ◌-◌, ◌<◌, ◌≤◌, length, get_or, Some, ap, sym, ◌∙◌, subst, arith}
-use Rattle.qtc_store.specs.Batches.{values_of}
+use Rattle.std.proofs.Common.{◌≡◌, ◌+◌, ◌-◌, ◌<◌, length, get_or, Some, ap, sym, ◌∙◌, subst, arith}
 use Rattle.qtc_store.proofs.Cells.{results_found, index_before, index_past, index_at, index_end}
 use Rattle.qtc_store.proofs.walks.value_at_index.Goals as goal
 use Rattle.qtc_store.proofs.walks.value_at_index.Goals.{then-batch-index+else-place-values, else-batch-index}

@@ -1,7 +1,5 @@
-use Rattle.std.proofs.Common.{◌≡◌, ◌+◌, ◌-◌, ◌<◌, ◌≤◌, length, get_or, Some, ap, sym, ◌∙◌, subst, arith}
-use Rattle.std.specs.List.{slice_get, flat_map}
-use Rattle.qtc_store.specs.Batches.{values_of}
-use Rattle.qtc_store.proofs.Cells.{position_past, position_at, position_end}
+use Rattle.std.proofs.Common.{◌≡◌, ◌<◌, ◌≤◌, length, get_or, Some, ap, sym, ◌∙◌, subst, arith}
+use Rattle.qtc_store.proofs.Cells.{position_past, position_at}
 use Rattle.qtc_store.proofs.walks.value_at_position.Goals as goal
 
 pub returns-then-rest-values : goal.returns-then-rest-values

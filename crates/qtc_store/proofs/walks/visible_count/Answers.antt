@@ -1,4 +1,4 @@
-use Rattle.std.proofs.Common.{◌≡◌, length, ap, arith}
+use Rattle.std.proofs.Common.{length, ap, arith}
 use Rattle.qtc_store.proofs.Covered.{end_of-read}
 use Rattle.qtc_store.proofs.Meeting.{few_read, walk_values}
 use Rattle.qtc_store.proofs.walks.visible_count.Goals as goal

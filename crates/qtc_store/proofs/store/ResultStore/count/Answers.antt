@@ -1,5 +1,5 @@
-use Rattle.std.proofs.Common.{◌≡◌, ◌≤◌, Bool, false, ap, sym, ◌∙◌, subst}
-use Rattle.qtc_store.specs.Stored.{Stored, IsStore, IsFirstGap, count_of}
+use Rattle.std.proofs.Common.{ap, sym, ◌∙◌, subst}
+use Rattle.qtc_store.specs.Stored.{IsStore, IsFirstGap, count_of}
 use Rattle.qtc_store.specs.Visible.{meeting_end}
 use Rattle.qtc_store.proofs.Gap.{plain_count, plain_gap, plain_within}
 use Rattle.qtc_store.proofs.store.ResultStore.count.Goals as goal

@@ -1,11 +1,12 @@
 -- What a store is seen as: its mode, and its accepted batches in order of their begins.
-use Rattle.std.specs.Prelude.{ℕ, ◌≡◌, ◌+◌, ◌<◌, ◌≤◌, ◌==◌, ◌&&◌, nat_lt, nat_le, Bool, if◌then◌else◌, Option, Some, None, IsSome, is_some, List, [], ◌∷◌, length, slice_get, All}
+use Rattle.std.specs.Prelude.{ℕ, ◌≡◌, ◌+◌, ◌<◌, ◌≤◌, ◌==◌, ◌&&◌, nat_lt, nat_le, Bool, if◌then◌else◌, Option, Some, None, IsSome, is_some, unwrap_or, List, [], ◌∷◌, length, slice_get, All}
 use Rattle.std.specs.List.{list_any}
 use Rattle.std.specs.FinMap.{get}
 use Rattle.qtc_base.specs.declared.ranges.Range.{Range}
 use Rattle.qtc_store.specs.declared.batch.Batch.{Batch}
 use Rattle.qtc_store.specs.declared.batch.AddFault.{AddFault}
 use Rattle.qtc_store.specs.declared.batch.AddFault.TheVariants.{Taken, PastEnd}
+use Rattle.qtc_store.specs.declared.batch.TheConstants.{MOST_END}
 use Rattle.qtc_store.specs.Batches.{AreApart, IsWhole, placed, greatest_end, least_covered}
 use Rattle.qtc_store.specs.Results.{results, result_count, result_ranges}
 use Rattle.qtc_store.specs.Visible.{visible, visible_ranges}
@@ -44,7 +45,7 @@ pub record AreRangesOf {V : Type 0} (store : Stored V) (ranges : List (ℕ × �
 -- why a batch is refused, want of memory apart: the least index of it that is covered, or its end
 abbrev pub refusal : Option ℕ → ℕ → Option AddFault
 refusal (Some index) end = Some (Taken index)
-refusal None end = if nat_lt 8388608 end then Some PastEnd else None
+refusal None end = if nat_lt MOST_END end then Some PastEnd else None
 
 abbrev pub refusal_of : {V : Type 0} → List (Batch V) → (begin total : ℕ) → Option AddFault
 refusal_of batches begin total = refusal (least_covered batches begin total) (begin + total)
@@ -63,6 +64,10 @@ pub record IsFirstResults {V : Type 0} (store : Stored V) (values : List V) : Ty
   pub all : length values ≡ count_of store
   pub each : (index : ℕ) → index < length values → slice_get values index ≡ value_at store index
 
+-- where a result goes that is added by itself: at its index, or where the last batch ends
+abbrev pub goes_at : {V : Type 0} → Stored V → Option ℕ → ℕ
+goes_at store index = unwrap_or index (greatest_end store.batches)
+
 -- with a batch that is accepted; one that covers nothing adds nothing
 abbrev pub with_batch : {V : Type 0} → Stored V → Batch V → Stored V
 with_batch store batch = if batch.total == 0 then store else record store { batches = placed store.batches batch }
@@ -71,4 +76,4 @@ with_batch store batch = if batch.total == 0 then store else record store { batc
 pub record IsStore {V : Type 0} (filter : Bool) (batches : List (Batch V)) : Type 0 where
   pub apart : AreApart 0 batches
   pub whole : All (IsWhole filter) batches
-  pub bounded : greatest_end batches ≤ 8388608
+  pub bounded : greatest_end batches ≤ MOST_END

@@ -136,7 +136,7 @@ impl<V> ResultStore<V> {
 }
 
 impl<V: Drop> ResultStore<V> {
-    ghost use Rattle.qtc_store.specs.Stored.{count_of, refusal_of, with_batch, KeepsResults};
+    ghost use Rattle.qtc_store.specs.Stored.{count_of, goes_at, refusal_of, with_batch, KeepsResults};
 
     /// Stores a batch that is not refused. An Err is want of memory.
     fn insert(&mut self, batch: Batch<V>) -> Result<(), AddFault>
@@ -211,12 +211,12 @@ impl<V: Drop> ResultStore<V> {
     /// of one.
     pub fn add(&mut self, index: Option<u32>, value: V) -> Result<Added, AddFault>
         requires { self.old.filter ≡ true → IsSome index }
-        ensures taken { (i : ℕ) → (result ≡ Err (AddFault.Taken i)) ↔ (least_covered self.old.batches (unwrap_or index (greatest_end self.old.batches)) 1 ≡ Some i) }
-        ensures past_end { (result ≡ Err AddFault.PastEnd) ↔ ((least_covered self.old.batches (unwrap_or index (greatest_end self.old.batches)) 1 ≡ None) × (MOST_END < unwrap_or index (greatest_end self.old.batches) + 1)) }
-        ensures accepted { OnOk result (refusal_of self.old.batches (unwrap_or index (greatest_end self.old.batches)) 1 ≡ None) }
-        ensures ok { OnOk result (self.new ≡ with_batch self.old (record { begin = unwrap_or index (greatest_end self.old.batches); values = value ∷ []; total = 1 })) }
+        ensures taken { (i : ℕ) → (result ≡ Err (AddFault.Taken i)) ↔ (least_covered self.old.batches (goes_at self.old index) 1 ≡ Some i) }
+        ensures past_end { (result ≡ Err AddFault.PastEnd) ↔ ((least_covered self.old.batches (goes_at self.old index) 1 ≡ None) × (MOST_END < goes_at self.old index + 1)) }
+        ensures accepted { OnOk result (refusal_of self.old.batches (goes_at self.old index) 1 ≡ None) }
+        ensures ok { OnOk result (self.new ≡ with_batch self.old (record { begin = goes_at self.old index; values = value ∷ []; total = 1 })) }
         ensures kept { OnOk result (KeepsResults self.old self.new) }
-        ensures begin { IfOk result (λ added. added.begin ≡ unwrap_or index (greatest_end self.old.batches)) }
+        ensures begin { IfOk result (λ added. added.begin ≡ goes_at self.old index) }
         ensures old_count { IfOk result (λ added. added.old_count ≡ count_of self.old) }
         ensures new_count { IfOk result (λ added. added.new_count ≡ count_of self.new) }
         ensures err { OnErr result (self.new ≡ self.old) }

@@ -1,0 +1,156 @@
+-- The table of calls of a future: one row a call. (After QFutureInterface and QPromise; each condition, change and order is own.)
+use Rattle.std.specs.Prelude.{ℕ, ◌+◌, Bool, true, false, not, ◌&&◌, nat_lt, nat_le, if◌then◌else◌, Option, None, Some, List, [], ◌∷◌, min}
+use Rattle.std.specs.List.{list_all, list_any}
+use Rattle.qtc_events.specs.Flags.{Flag, Standing, Running, Started, Finished, Canceled, Suspending, Suspended, Pending, stands, put_all}
+use Rattle.qtc_events.specs.declared.calls.Call.{Call}
+use Rattle.qtc_events.specs.declared.calls.Call.TheVariants.{Start, Report, Account, Suspend, Resume, ReportSuspended, Cancel, Fail, Finish}
+use Rattle.qtc_events.specs.declared.calls.Reached.{Reached}
+use Rattle.qtc_events.specs.declared.calls.Reached.TheVariants.{Nothing, Suspend as ReachedSuspend, Cancel as ReachedCancel}
+use Rattle.qtc_events.specs.declared.events.Event.{Event}
+use Rattle.qtc_events.specs.declared.events.Event.TheVariants.{Started as ToldStarted, Ready, Suspending as ToldSuspending, Suspended as ToldSuspended, Resumed as ToldResumed, Canceled as ToldCanceled, Finished as ToldFinished}
+
+pub record Row : Type 0 where
+  -- has an effect only where none of these stands,
+  pub none_of : List Flag
+  -- one of these does, where there are any,
+  pub one_of : List Flag
+  -- and the call itself is not empty
+  pub is_some : Bool
+  -- what an effect clears, and then sets
+  pub clears : List Flag
+  pub sets : List Flag
+  -- what it posts, where the results from the first number up to the second are newly ready
+  pub posts : ℕ → ℕ → Option Event
+  -- what it adds to the results that are accounted for
+  pub counts : ℕ
+
+-- the event of newly ready results, where there are any
+abbrev pub ready : ℕ → ℕ → Option Event
+ready begin end = if nat_lt begin end then Some (Ready begin end) else None
+
+abbrev pub row : Call → Row
+row Start = record {
+  none_of = Started ∷ Canceled ∷ Finished ∷ [];
+  one_of = [];
+  is_some = true;
+  clears = Pending ∷ [];
+  sets = Started ∷ Running ∷ [];
+  posts = λ _ _. Some ToldStarted;
+  counts = 0;
+}
+row (Report begin kept total) = record {
+  none_of = Canceled ∷ Finished ∷ [];
+  one_of = [];
+  is_some = nat_lt 0 total;
+  clears = [];
+  sets = [];
+  posts = ready;
+  counts = total;
+}
+row (Account total) = record {
+  none_of = Canceled ∷ Finished ∷ [];
+  one_of = [];
+  is_some = true;
+  clears = [];
+  sets = [];
+  posts = λ _ _. None;
+  counts = total;
+}
+row Suspend = record {
+  none_of = Canceled ∷ Finished ∷ Suspending ∷ Suspended ∷ [];
+  one_of = [];
+  is_some = true;
+  clears = [];
+  sets = Suspending ∷ [];
+  posts = λ _ _. Some ToldSuspending;
+  counts = 0;
+}
+row ReportSuspended = record {
+  none_of = Suspended ∷ Canceled ∷ Finished ∷ [];
+  one_of = Suspending ∷ [];
+  is_some = true;
+  clears = Suspending ∷ [];
+  sets = Suspended ∷ [];
+  posts = λ _ _. Some ToldSuspended;
+  counts = 0;
+}
+row Resume = record {
+  none_of = Canceled ∷ Finished ∷ [];
+  one_of = Suspending ∷ Suspended ∷ [];
+  is_some = true;
+  clears = Suspending ∷ Suspended ∷ [];
+  sets = [];
+  posts = λ _ _. Some ToldResumed;
+  counts = 0;
+}
+row Cancel = record {
+  none_of = Canceled ∷ Finished ∷ [];
+  one_of = [];
+  is_some = true;
+  clears = Suspending ∷ Suspended ∷ [];
+  sets = Canceled ∷ [];
+  posts = λ _ _. Some ToldCanceled;
+  counts = 0;
+}
+row (Fail index) = record {
+  none_of = Canceled ∷ Finished ∷ [];
+  one_of = [];
+  is_some = true;
+  clears = Suspending ∷ Suspended ∷ [];
+  sets = Canceled ∷ [];
+  posts = λ _ _. Some ToldCanceled;
+  counts = 0;
+}
+row Finish = record {
+  none_of = Finished ∷ [];
+  one_of = [];
+  is_some = true;
+  clears = Running ∷ Pending ∷ Suspending ∷ Suspended ∷ [];
+  sets = Finished ∷ [];
+  posts = λ _ _. Some ToldFinished;
+  counts = 0;
+}
+
+-- no flags are wanted, or one of them stands
+abbrev pub one_stands : Standing → List Flag → Bool
+one_stands s [] = true
+one_stands s (flag ∷ flags) = list_any (stands s) (flag ∷ flags)
+
+-- whether the call has an effect where these flags stand; a report also needs a store that takes it
+abbrev pub has_effect : Standing → Call → Bool
+has_effect s call = list_all (λ flag. not (stands s flag)) (row call).none_of && (one_stands s (row call).one_of && (row call).is_some)
+
+-- the flags after a call, without what a threshold does
+abbrev pub after_call : Standing → Call → Standing
+after_call s call = put_all true (put_all false s (row call).clears) (row call).sets
+
+-- what a threshold that was reached acts as
+abbrev pub acts_as : Reached → Option Call
+acts_as Nothing = None
+acts_as ReachedSuspend = Some Suspend
+acts_as ReachedCancel = Some Cancel
+
+abbrev pub after_acting : Standing → Option Call → Standing
+after_acting s None = s
+after_acting s (Some call) = after_call s call
+
+-- the flags after a call and the threshold that it reached
+abbrev pub after : Standing → Call → Reached → Standing
+after s call reached = after_acting (after_call s call) (acts_as reached)
+
+abbrev pub posts_of_acting : Option Call → Option Event
+posts_of_acting None = None
+posts_of_acting (Some call) = (row call).posts 0 0
+
+-- the results that are accounted for have a last number
+abbrev pub add_accounted : ℕ → Call → ℕ
+add_accounted accounted call = min (accounted + (row call).counts) 4294967295
+
+-- a threshold is passed or met, that wasn't before; 0 is none
+abbrev pub reaches : ℕ → ℕ → ℕ → Bool
+reaches threshold before after = nat_lt before threshold && nat_le threshold after
+
+-- the threshold that a report or an account reaches
+abbrev pub reached_of : (cancel_after suspend_after : ℕ) → Standing → (before after : ℕ) → Reached
+reached_of cancel_after suspend_after s before after =
+    if reaches cancel_after before after then ReachedCancel else if reaches suspend_after before after && has_effect s Suspend then ReachedSuspend else Nothing

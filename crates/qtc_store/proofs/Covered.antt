@@ -1,0 +1,112 @@
+-- Which indexes batches cover.
+use Rattle.std.proofs.Common.{◌≡◌, ℕ, zero, suc, ◌+◌, ◌<◌, ◌≤◌, max, true, false, nat_lt, List, [], ◌∷◌, length, get_or, drop, Option, Some, None, if◌then◌else◌, inl, inr, refl, ap, sym, ◌∙◌, subst, arith}
+use Rattle.std.specs.List.{find, range_with_len}
+use Rattle.std.proofs.lemmas.Bool.{cases_lt}
+use Rattle.std.proofs.lemmas.Bool.Decides.{nat_tests}
+use Rattle.std.proofs.lemmas.List.{drop_more, drop_all}
+use Rattle.qtc_store.specs.declared.batch.Batch.{Batch}
+use Rattle.qtc_store.specs.Batches.{end_of, covers, is_covered, least_covered, greatest_end, AreApart}
+
+-- ---- the ends of batches
+pub end_of-le : {V : Type 0} (batches : List (Batch V)) (i : ℕ) (d : Batch V) → i < length batches → end_of (get_or batches i d) ≤ greatest_end batches
+end_of-le [] i d h = absurd (omega arith)
+end_of-le (b ∷ batches) zero d h = omega arith
+end_of-le (b ∷ batches) (suc i) d h = omega (arith, end_of-le batches i d (omega arith))
+
+pub greatest_end-drop : {V : Type 0} (i : ℕ) (batches : List (Batch V)) → greatest_end (drop i batches) ≤ greatest_end batches
+greatest_end-drop zero batches = omega arith
+greatest_end-drop (suc i) [] = omega arith
+greatest_end-drop (suc i) (b ∷ batches) = omega (arith, greatest_end-drop i batches)
+
+-- ---- batches apart
+pub apart_lower : {V : Type 0} (low low' : ℕ) (batches : List (Batch V)) → low ≤ low' → AreApart low' batches → AreApart low batches
+apart_lower low low' [] h a = tt
+apart_lower low low' (b ∷ batches) h a = (omega (arith, a.0), a.1, a.2)
+
+-- an index below all of them
+pub none_below : {V : Type 0} (low index : ℕ) (batches : List (Batch V)) → AreApart low batches → index < low → is_covered batches index ≡ false
+none_below low index [] a h = refl
+none_below low index (b ∷ batches) a h =
+    let rest = none_below (end_of b) index batches a.2 (omega (arith, a.0)) in
+    let out : covers index b ≡ false = grind (arith, nat_tests, a.0) in
+    rw (out, rest) refl
+
+-- ---- the least covered index of a range
+past_batch : {V : Type 0} (b : Batch V) (batches : List (Batch V)) (begin total : ℕ) → end_of b ≤ begin → find (is_covered (b ∷ batches)) (range_with_len begin total) ≡ find (is_covered batches) (range_with_len begin total)
+past_batch b batches begin zero h = refl
+past_batch b batches begin (suc total) h =
+    let out : covers begin b ≡ false = grind (arith, nat_tests) in
+    rw (out, past_batch b batches (begin + 1) total (omega arith)) refl
+
+pub least_covered-past : {V : Type 0} (b : Batch V) (batches : List (Batch V)) (begin total : ℕ) → end_of b ≤ begin → least_covered (b ∷ batches) begin total ≡ least_covered batches begin total
+least_covered-past b batches begin total h = past_batch b batches begin total h
+
+-- the first of the batches that ends past `begin` covers the least index, if it begins in time
+hit_before : {V : Type 0} (b : Batch V) (batches : List (Batch V)) (low begin total : ℕ) → AreApart low (b ∷ batches) → begin < b.begin → is_covered (b ∷ batches) begin ≡ false
+hit_before b batches low begin total a h =
+    let out : covers begin b ≡ false = grind (arith, nat_tests) in
+    let rest = none_below (end_of b) begin batches a.2 (omega arith) in
+    rw (out, rest) refl
+
+hit_within : {V : Type 0} (b : Batch V) (batches : List (Batch V)) (begin : ℕ) → b.begin ≤ begin → begin < end_of b → is_covered (b ∷ batches) begin ≡ true
+hit_within b batches begin low high =
+    let inside : covers begin b ≡ true = grind (arith, nat_tests) in
+    rw inside refl
+
+first_of : ℕ → ℕ → Option ℕ
+first_of first end = if nat_lt first end then Some first else None
+
+first_of-none : (first end : ℕ) → end ≤ first → first_of first end ≡ None
+unfolding first_of
+first_of-none first end h = grind (arith, nat_tests)
+
+first_of-some : (first end : ℕ) → first < end → first_of first end ≡ Some first
+unfolding first_of
+first_of-some first end h = grind (arith, nat_tests)
+
+hit : {V : Type 0} (b : Batch V) (batches : List (Batch V)) (low begin total : ℕ) → AreApart low (b ∷ batches) → begin < end_of b → find (is_covered (b ∷ batches)) (range_with_len begin total) ≡ first_of (max b.begin begin) (begin + total)
+hit b batches low begin zero a h = sym (first_of-none (max b.begin begin) (begin + 0) (omega arith))
+hit b batches low begin (suc total) a h =
+    elim (cases_lt begin b.begin) [
+      | inl before ↦
+          let out = hit_before b batches low begin total a before in
+          let rest = hit b batches low (begin + 1) total a (omega (arith, a.1)) in
+          let same : max b.begin (begin + 1) ≡ max b.begin begin = omega arith in
+          let end : begin + 1 + total ≡ begin + suc total = omega arith in
+          rw out (rest ∙ rw (same, end) refl)
+      | inr within ↦
+          let inside = hit_within b batches begin within h in
+          let same : max b.begin begin ≡ begin = omega arith in
+          rw (inside, same) (sym (first_of-some begin (begin + suc total) (omega arith)))
+    ]
+
+least_covered-nil : (V : Type 0) (begin total : ℕ) → least_covered {V = V} [] begin total ≡ None
+least_covered-nil V begin zero = refl
+least_covered-nil V begin (suc total) = least_covered-nil V (begin + 1) total
+
+-- ---- a walk from batch to batch
+pub drop_read : {X : Type 0} (xs : List X) (i : ℕ) (x : X) → i < length xs → x ≡ get_or xs i x → drop i xs ≡ x ∷ drop (i + 1) xs
+drop_read xs i x h is = drop_more xs i x h ∙ ap (λ y. y ∷ drop (i + 1) xs) (sym is)
+
+pub end_of-read : {V : Type 0} (batches : List (Batch V)) (i : ℕ) (b : Batch V) → i < length batches → b ≡ get_or batches i b → end_of b ≤ greatest_end batches
+end_of-read batches i b h is =
+    let P : Batch _ → Type 0 = λ x. end_of x ≤ greatest_end batches in
+    subst P (sym is) (end_of-le batches i b h)
+
+module _ {V : Type 0} (batches : List (Batch V)) (i : ℕ) (b : Batch V) (within : i < length batches) (is : b ≡ get_or batches i b) (begin total : ℕ) where
+  pub walk_past : end_of b ≤ begin → (least_covered (drop i batches) begin total ≡ least_covered batches begin total) × AreApart 0 (drop i batches) → (least_covered (drop (i + 1) batches) begin total ≡ least_covered batches begin total) × AreApart 0 (drop (i + 1) batches)
+  walk_past h inv =
+      let at = drop_read batches i b within is in
+      let apart = subst (AreApart 0) at inv.1 in
+      (sym (least_covered-past b (drop (i + 1) batches) begin total h) ∙ ap (λ xs. least_covered xs begin total) (sym at) ∙ inv.0, apart_lower 0 (end_of b) _ (omega arith) apart.2)
+
+  pub walk_hit : begin < end_of b → (least_covered (drop i batches) begin total ≡ least_covered batches begin total) × AreApart 0 (drop i batches) → least_covered batches begin total ≡ (if nat_lt (max b.begin begin) (begin + total) then Some (max b.begin begin) else None)
+  unfolding first_of
+  walk_hit h inv =
+      let at = drop_read batches i b within is in
+      let apart = subst (AreApart 0) at inv.1 in
+      sym inv.0 ∙ ap (λ xs. least_covered xs begin total) at ∙ hit b (drop (i + 1) batches) 0 begin total apart h
+
+pub walk_end : {V : Type 0} (batches : List (Batch V)) (i begin total : ℕ) → length batches ≤ i → least_covered (drop i batches) begin total ≡ least_covered batches begin total → None ≡ least_covered batches begin total
+walk_end {V = V} batches i begin total past e =
+    sym (least_covered-nil V begin total) ∙ ap (λ xs. least_covered xs begin total) (sym (drop_all i batches past)) ∙ e

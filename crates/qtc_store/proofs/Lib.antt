@@ -1,0 +1,11 @@
+pub mod Covered
+pub mod Meeting
+pub mod Cells
+pub mod Placed
+pub mod Gap
+pub mod Kept
+pub mod First
+pub mod Ranges
+pub mod Below
+pub mod Arrival
+pub mod Offers

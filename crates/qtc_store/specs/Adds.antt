@@ -1,0 +1,36 @@
+-- Additions that are offered one after the other, of which some are refused.
+use Rattle.std.specs.Prelude.{◌≡◌, ◌≤◌, Bool, true, false, ◌&&◌, nat_lt, if◌then◌else◌, is_none, unwrap_or, IsSome, List, [], ◌∷◌, ◌++◌, length, fold}
+use Rattle.qtc_store.specs.declared.batch.Batch.{Batch}
+use Rattle.qtc_store.specs.declared.batch.Addition.{Addition}
+use Rattle.qtc_store.specs.Batches.{greatest_end}
+use Rattle.qtc_store.specs.Stored.{Stored, refusal_of, with_batch}
+
+-- the batch that an addition is where these were accepted before; without a begin it goes at the greatest end
+abbrev pub batch_of : {V : Type 0} → List (Batch V) → Addition V → Batch V
+batch_of accepted addition = record {
+  begin = unwrap_or addition.begin (greatest_end accepted);
+  values = addition.values;
+  total = addition.total;
+}
+
+-- none of its indexes is covered, it does not end too far, and it covers something
+abbrev pub is_accepted : {V : Type 0} → List (Batch V) → Batch V → Bool
+is_accepted accepted batch = is_none (refusal_of accepted batch.begin batch.total) && nat_lt 0 batch.total
+
+abbrev pub accepted_with : {V : Type 0} → List (Batch V) → Addition V → List (Batch V)
+accepted_with accepted addition = if is_accepted accepted (batch_of accepted addition) then accepted ++ batch_of accepted addition ∷ [] else accepted
+
+-- the accepted batches in order of arrival
+abbrev pub accepted_of : {V : Type 0} → List (Addition V) → List (Batch V)
+accepted_of additions = fold accepted_with [] additions
+
+-- the store after one addition, refused or not
+abbrev pub offered : {V : Type 0} → Stored V → Addition V → Stored V
+offered store addition = let batch = batch_of store.batches addition in
+    if is_none (refusal_of store.batches batch.begin batch.total) then with_batch store batch else store
+
+-- an addition may be offered in a mode
+pub record Fits {V : Type 0} (filter : Bool) (addition : Addition V) : Type 0 where
+  pub few : length addition.values ≤ addition.total
+  pub whole : filter ≡ false → length addition.values ≡ addition.total
+  pub given : filter ≡ true → IsSome addition.begin

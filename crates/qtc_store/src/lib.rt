@@ -1,0 +1,14 @@
+//! Results by index, as batches come in any order: a finite map, or, where a filter drops results, one list
+//! that shows what has no gap before it.
+#![tactic(auto)]
+
+mod batch;
+mod laws;
+mod store;
+#[cfg(test)]
+mod tests;
+mod walks;
+
+pub use batch::{AddFault, Added, Addition, Batch, MOST_END};
+pub use laws::visible_is_below_gap;
+pub use store::ResultStore;

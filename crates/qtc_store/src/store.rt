@@ -1,0 +1,295 @@
+ghost use Rattle.std.specs.Prelude.{◌≡◌, ◌+◌, ◌<◌, ◌≤◌, ◌↔◌, true, false, [], ◌∷◌, OnOk, OnErr, IfOk, IfErr, IsSome, IsTrue, None, Some, is_some, ℕ, Err, length, map, option_copied, unwrap_or, All};
+ghost use Rattle.qtc_store.specs.Batches.{greatest_end, least_covered};
+
+use crate::batch::MOST_END;
+use crate::walks::{
+    first_covered, greatest_end_of, meeting_end_of, meeting_len, place_of, ranges_of_batches,
+    ranges_of_visible, value_at_index, value_at_position, visible_count, visible_values,
+};
+use crate::{AddFault, Added, Addition, Batch};
+use qtc_base::{List, NoMemory, Range};
+use std::alloc::Global;
+use std::marker::Model;
+
+/// Results by index.
+///
+/// In plain mode each batch has a value for each index that it covers, and the store is the finite map of
+/// all of them. In filter mode a batch has the values that a filter kept, and the store is one list: the
+/// values of the batches that meet from index 0 on, numbered from 0. What lies behind a gap is pending. In
+/// both modes an index is covered once. (After Qt's result store.)
+#[derive(Drop)]
+pub struct ResultStore<V> {
+    filter: bool,
+    batches: Vec<Batch<V>>,
+}
+
+impl<V> Model for ResultStore<V> {
+    ghost use Rattle.qtc_store.specs.Stored.{Stored};
+
+    ghost Value = { Stored V };
+
+    ghost use Rattle.qtc_store.specs.Stored.{IsStore};
+
+    ghost view = { λ s. record { filter = s.filter; batches = s.batches.items } };
+
+    ghost invariant = { λ s. IsStore s.filter s.batches.items };
+}
+
+impl<V> ResultStore<V> {
+    ghost use Rattle.qtc_store.specs.Stored.{count_of, ranges_of, value_at, refusal_of, AreRangesOf, IsFirstGap, IsFirstResults, bounds_of};
+
+    /// The empty store, which takes no memory yet.
+    pub fn new(alloc: Global, filter: bool) -> ResultStore<V>
+        ensures { result ≡ record { filter = filter; batches = [] } }
+    {
+        ResultStore {
+            filter,
+            batches: Vec::new(alloc),
+        }
+    }
+
+    pub fn is_filter(&self) -> bool
+        ensures { result ≡ self.now.filter }
+    {
+        self.filter
+    }
+
+    /// The result at `index`, which in filter mode is a position; None exactly where plain mode stores
+    /// nothing there, or the position isn't below the count.
+    pub fn get(&self, index: u32) -> Option<&V>
+        ensures { option_copied result ≡ value_at self.now index }
+    {
+        if self.filter {
+            let visible = meeting_len(&self.batches);
+            value_at_position(&self.batches[..visible], index)
+        } else {
+            value_at_index(&self.batches, index)
+        }
+    }
+
+    /// Whether there is a result at `index`.
+    pub fn contains(&self, index: u32) -> bool
+        ensures { result ≡ is_some (value_at self.now index) }
+    {
+        self.get(index).is_some()
+    }
+
+    /// The consecutive results from 0 on, or in filter mode the visible ones.
+    pub fn count(&self) -> u32
+        ensures count { result ≡ count_of self.now }
+        ensures first_gap { IsFirstGap self.now result }
+        ensures within { result ≤ MOST_END }
+    {
+        if self.filter {
+            visible_count(&self.batches)
+        } else {
+            meeting_end_of(&self.batches)
+        }
+    }
+
+    /// Where a result without an index of its own goes: the greatest end of a batch, or 0.
+    pub fn insert_index(&self) -> u32
+        ensures index { result ≡ greatest_end self.now.batches }
+        ensures within { result ≤ MOST_END }
+    {
+        greatest_end_of(&self.batches)
+    }
+
+    /// The ranges of the stored batches, or in filter mode the positions of the visible batches that have
+    /// values, ascending. Err is want of memory.
+    pub fn batches(&self) -> Result<List<Range>, NoMemory>
+        ensures ranges { IfOk result (λ ranges. map bounds_of ranges ≡ ranges_of self.now) }
+        ensures just { IfOk result (λ ranges. AreRangesOf self.now (map bounds_of ranges)) }
+    {
+        let alloc = *self.batches.allocator();
+        if self.filter {
+            ranges_of_visible(alloc, &self.batches)
+        } else {
+            ranges_of_batches(alloc, &self.batches)
+        }
+    }
+
+    /// The results below the count, in order. Err is want of memory, and drops the store.
+    pub fn into_results(self) -> Result<List<V>, NoMemory>
+    where
+        V: Drop,
+        ensures { IfOk result (λ values. IsFirstResults self values) }
+    {
+        let alloc = *self.batches.allocator();
+        let ResultStore { filter: _, batches } = self;
+        let values = visible_values(alloc, batches)?;
+        Ok(List::from_vec(values))
+    }
+
+    /// Why a batch would be refused, want of memory apart.
+    fn refusal(&self, begin: u32, total: u32) -> Option<AddFault>
+        ensures { result ≡ refusal_of self.now.batches begin total }
+    {
+        if let Some(index) = first_covered(&self.batches, begin, total) {
+            return Some(AddFault::Taken(index));
+        }
+        if u64::from(begin) + u64::from(total) > u64::from(MOST_END) {
+            return Some(AddFault::PastEnd);
+        }
+        None
+    }
+}
+
+impl<V: Drop> ResultStore<V> {
+    ghost use Rattle.qtc_store.specs.Stored.{count_of, goes_at, refusal_of, with_batch, KeepsResults};
+
+    /// Stores a batch that is not refused. An Err is want of memory.
+    fn insert(&mut self, batch: Batch<V>) -> Result<(), AddFault>
+        requires free { least_covered self.old.batches batch.begin batch.total ≡ None }
+        requires bounded { batch.begin + batch.total ≤ MOST_END }
+        requires few { length batch.values ≤ batch.total }
+        requires whole { self.old.filter ≡ false → length batch.values ≡ batch.total }
+        ensures ok { OnOk result (self.new ≡ with_batch self.old batch) }
+        ensures kept { OnOk result (KeepsResults self.old self.new) }
+        ensures memory { IfErr result (λ fault. fault ≡ AddFault.Memory) }
+        ensures err { OnErr result (self.new ≡ self.old) }
+    {
+        if batch.total > 0 {
+            let place = place_of(&self.batches, batch.begin);
+            self.batches.insert(place, batch)?;
+        }
+        Ok(())
+    }
+
+    /// Stores a batch that is not refused, and tells what it did to the count. An Err is want of memory.
+    fn accept(&mut self, batch: Batch<V>) -> Result<Added, AddFault>
+        requires free { least_covered self.old.batches batch.begin batch.total ≡ None }
+        requires bounded { batch.begin + batch.total ≤ MOST_END }
+        requires few { length batch.values ≤ batch.total }
+        requires whole { self.old.filter ≡ false → length batch.values ≡ batch.total }
+        ensures ok { OnOk result (self.new ≡ with_batch self.old batch) }
+        ensures kept { OnOk result (KeepsResults self.old self.new) }
+        ensures begin { IfOk result (λ added. added.begin ≡ batch.begin) }
+        ensures old_count { IfOk result (λ added. added.old_count ≡ count_of self.old) }
+        ensures new_count { IfOk result (λ added. added.new_count ≡ count_of self.new) }
+        ensures memory { IfErr result (λ fault. fault ≡ AddFault.Memory) }
+        ensures err { OnErr result (self.new ≡ self.old) }
+    {
+        let begin = batch.begin;
+        let old_count = self.count();
+        self.insert(batch)?;
+        let new_count = self.count();
+        Ok(Added {
+            begin,
+            old_count,
+            new_count,
+        })
+    }
+
+    /// Adds a batch for the indexes from `begin` to `begin + total`. `Taken` comes exactly where one of them
+    /// is covered, with the least such index, else `PastEnd` exactly where the batch would end past
+    /// `MOST_END`. A batch of total 0 adds nothing. A refused batch is dropped, and the store is as before.
+    pub fn add_batch(&mut self, begin: u32, values: List<V>, total: u32) -> Result<Added, AddFault>
+        requires few { length values ≤ total }
+        requires whole { self.old.filter ≡ false → length values ≡ total }
+        ensures taken { (index : ℕ) → (result ≡ Err (AddFault.Taken index)) ↔ (least_covered self.old.batches begin total ≡ Some index) }
+        ensures past_end { (result ≡ Err AddFault.PastEnd) ↔ ((least_covered self.old.batches begin total ≡ None) × (MOST_END < begin + total)) }
+        ensures accepted { OnOk result (refusal_of self.old.batches begin total ≡ None) }
+        ensures ok { OnOk result (self.new ≡ with_batch self.old (record { begin = begin; values = values; total = total })) }
+        ensures kept { OnOk result (KeepsResults self.old self.new) }
+        ensures begin { IfOk result (λ added. added.begin ≡ begin) }
+        ensures old_count { IfOk result (λ added. added.old_count ≡ count_of self.old) }
+        ensures new_count { IfOk result (λ added. added.new_count ≡ count_of self.new) }
+        ensures err { OnErr result (self.new ≡ self.old) }
+    {
+        if let Some(fault) = self.refusal(begin, total) {
+            return Err(fault);
+        }
+        self.accept(Batch {
+            begin,
+            values,
+            total,
+        })
+    }
+
+    /// Adds one result at `index`, or at the insert index. The answers are those of `add_batch` for a batch
+    /// of one.
+    pub fn add(&mut self, index: Option<u32>, value: V) -> Result<Added, AddFault>
+        requires { self.old.filter ≡ true → IsSome index }
+        ensures taken { (i : ℕ) → (result ≡ Err (AddFault.Taken i)) ↔ (least_covered self.old.batches (goes_at self.old index) 1 ≡ Some i) }
+        ensures past_end { (result ≡ Err AddFault.PastEnd) ↔ ((least_covered self.old.batches (goes_at self.old index) 1 ≡ None) × (MOST_END < goes_at self.old index + 1)) }
+        ensures accepted { OnOk result (refusal_of self.old.batches (goes_at self.old index) 1 ≡ None) }
+        ensures ok { OnOk result (self.new ≡ with_batch self.old (record { begin = goes_at self.old index; values = value ∷ []; total = 1 })) }
+        ensures kept { OnOk result (KeepsResults self.old self.new) }
+        ensures begin { IfOk result (λ added. added.begin ≡ goes_at self.old index) }
+        ensures old_count { IfOk result (λ added. added.old_count ≡ count_of self.old) }
+        ensures new_count { IfOk result (λ added. added.new_count ≡ count_of self.new) }
+        ensures err { OnErr result (self.new ≡ self.old) }
+    {
+        let begin = index.unwrap_or(self.insert_index());
+        if let Some(fault) = self.refusal(begin, 1) {
+            return Err(fault);
+        }
+        let values = single(*self.batches.allocator(), value)?;
+        self.accept(Batch {
+            begin,
+            values,
+            total: 1,
+        })
+    }
+}
+
+impl<V: Drop> ResultStore<V> {
+    ghost use Rattle.std.specs.FinMap.{get};
+    ghost use Rattle.qtc_store.specs.Batches.{in_order};
+    ghost use Rattle.qtc_store.specs.Results.{results};
+    ghost use Rattle.qtc_store.specs.Stored.{value_at};
+    ghost use Rattle.qtc_store.specs.Adds.{accepted_of, offered, Fits};
+
+    /// The store after these additions, offered one after the other, the refused ones dropped. So every
+    /// query of it answers from the accepted ones. Err is want of memory.
+    pub fn from_additions(
+        alloc: Global,
+        filter: bool,
+        additions: Vec<Addition<V>>,
+    ) -> Result<ResultStore<V>, NoMemory>
+        requires { All (Fits filter) additions.items }
+        ensures accepted { IfOk result (λ store. store ≡ record { filter = filter; batches = in_order (accepted_of additions.items) }) }
+
+        // In plain mode the order in which they came makes no difference.
+        ensures results { filter ≡ false → IfOk result (λ store. (index : ℕ) → value_at store index ≡ get (results (accepted_of additions.items)) index) }
+    {
+        let mut store = ResultStore::new(alloc, filter);
+        for addition in additions {
+            store.offer(addition)?;
+        }
+        Ok(store)
+    }
+
+    /// Adds a batch unless it is refused. Err is want of memory, and leaves the store as it was.
+    fn offer(&mut self, addition: Addition<V>) -> Result<(), NoMemory>
+        requires { Fits self.old.filter addition }
+        ensures ok { OnOk result (self.new ≡ offered self.old addition) }
+        ensures err { OnErr result (self.new ≡ self.old) }
+    {
+        let Addition {
+            begin,
+            values,
+            total,
+        } = addition;
+        let begin = begin.unwrap_or(self.insert_index());
+        match self.add_batch(begin, values, total) {
+            Ok(_) => Ok(()),
+            Err(AddFault::Taken(_)) => Ok(()),
+            Err(AddFault::PastEnd) => Ok(()),
+            Err(AddFault::Memory) => Err(NoMemory),
+        }
+    }
+}
+
+/// A list of one value.
+fn single<V: Drop>(alloc: Global, value: V) -> Result<List<V>, AddFault>
+    ensures ok { IfOk result (λ values. values ≡ value ∷ []) }
+    ensures memory { IfErr result (λ fault. fault ≡ AddFault.Memory) }
+{
+    let mut values = List::new(alloc);
+    match values.push(value) {
+        Ok(()) => Ok(values),
+        Err(_value) => Err(AddFault::Memory),
+    }
+}

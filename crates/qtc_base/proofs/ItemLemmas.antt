@@ -1,6 +1,6 @@
 -- What a push and a look-up do to the pieces of a buffer.
-use Rattle.std.proofs.Common.{◌≡◌, ℕ, zero, suc, ◌+◌, ◌-◌, ◌<◌, ◌≤◌, List, [], ◌∷◌, ◌++◌, length, take, drop, get_or, refl, ap, sym, ◌∙◌, arith}
-use Rattle.std.specs.Prelude.{slice_range, slice_get, sum_by, Some, None}
+use Rattle.std.proofs.Common.{◌≡◌, ℕ, zero, suc, ◌-◌, ◌<◌, ◌≤◌, List, [], ◌∷◌, ◌++◌, length, get_or, refl, ap, sym, ◌∙◌, arith}
+use Rattle.std.specs.Prelude.{slice_range, slice_get, Some}
 use Rattle.std.proofs.lemmas.Grind.{common_steps}
 use Rattle.qtc_base.specs.Pieces.{pieces, AreEnds, begin_of}
 use Rattle.qtc_base.specs.Items.{total_bytes}

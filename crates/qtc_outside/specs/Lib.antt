@@ -1,5 +1,6 @@
 -- What reading and writing mean.
 pub mod Counts
+pub mod FileTexts
 pub mod MemSink
 pub mod MemTexts
 pub mod Reading

@@ -6,7 +6,7 @@ use qtc_base::List;
 /// Which calls of an object in memory fail, and how many calls and faults there were.
 #[derive(Drop)]
 pub struct FaultPlan {
-    fails: List<u64>,
+    pub fails: List<u64>,
     pub calls: u64,
     pub faults: u64,
 }

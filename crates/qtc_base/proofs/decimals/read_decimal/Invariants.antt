@@ -1,4 +1,4 @@
-use Rattle.std.proofs.Common.{◌≡◌, ◌<◌, ◌≤◌, ◌^◌, ℕ, take, get_or}
+use Rattle.std.proofs.Common.{◌≡◌, ◌<◌, ◌^◌, ℕ, take, get_or}
 use Rattle.qtc_base.specs.Decimal.{number_of, IsDigit}
 use Rattle.qtc_base.proofs.decimals.read_decimal.Given as goal
 

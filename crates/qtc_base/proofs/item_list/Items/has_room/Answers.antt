@@ -1,5 +1,4 @@
 use Rattle.std.proofs.Common.{arith}
-use Rattle.std.proofs.lemmas.Grind.{common_steps}
 use Rattle.std.proofs.lemmas.Bool.Decides.{nat_tests}
 use Rattle.qtc_base.proofs.ItemLemmas.{length-items, total_bytes-items}
 use Rattle.qtc_base.proofs.item_list.Items.has_room.Goals as goal

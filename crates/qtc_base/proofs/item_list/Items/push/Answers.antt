@@ -1,6 +1,6 @@
-use Rattle.std.proofs.Common.{◌≡◌, ◌+◌, ◌++◌, ◌≤◌, length, arith, sym, ap, ◌∙◌, length-append, refl, rules}
+use Rattle.std.proofs.Common.{arith, ap, ◌∙◌, refl}
 use Rattle.std.proofs.lemmas.Grind.{common_steps}
-use Rattle.qtc_base.specs.Pieces.{pieces, AreEnds}
+use Rattle.qtc_base.specs.Pieces.{pieces}
 use Rattle.qtc_base.proofs.ItemLemmas.{AreEnds-push, push-items, length-items, total_bytes-items}
 use Rattle.qtc_base.proofs.item_list.Items.push.Goals as goal
 

@@ -1,4 +1,4 @@
-use Rattle.std.proofs.Common.{arith, sym, ap, length, ◌∙◌, rules}
+use Rattle.std.proofs.Common.{arith, sym, ap, length, ◌∙◌}
 use Rattle.std.proofs.lemmas.Grind.{common_steps}
 use Rattle.qtc_base.specs.Lines.{lines}
 use Rattle.qtc_base.proofs.LineLemmas.{one_line, first_line}

@@ -2,6 +2,7 @@
 #![tactic(auto)]
 
 use qtc_outside::{FileTexts, NoGate, StdSink};
+use refusals::Refusal;
 use run::run_words;
 use std::alloc::Global;
 use std::process::ExitCode;
@@ -22,12 +23,24 @@ fn words_of(rt: &HostRuntime, alloc: Global) -> io::Result<Vec<String>> {
     Ok(words)
 }
 
-fn main(rt: HostRuntime) -> io::Result<ExitCode> {
+/// Why there are no words: memory lacks, or one of them is no text.
+fn refusal_of(fault: &io::Error) -> Refusal {
+    match fault.kind() {
+        io::ErrorKind::OutOfMemory => Refusal::Memory,
+        _ => Refusal::ReadFault,
+    }
+}
+
+fn main(rt: HostRuntime) -> ExitCode {
     let alloc = rt.alloc();
-    let words = words_of(&rt, alloc)?;
     let mut out = StdSink::new(&rt, false);
     let mut err = StdSink::new(&rt, true);
-    let mut texts = FileTexts::new(rt);
-    let ended = run_words(alloc, &words, &mut texts, &mut out, &mut err, &NoGate);
-    Ok(ExitCode::from(ended.status))
+    let status = match words_of(&rt, alloc) {
+        Ok(words) => {
+            let mut texts = FileTexts::new(rt);
+            run_words(alloc, &words, &mut texts, &mut out, &mut err, &NoGate).status
+        }
+        Err(fault) => refusal_of(&fault).tell(alloc, &mut err),
+    };
+    ExitCode::from(status)
 }

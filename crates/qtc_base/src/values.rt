@@ -1,4 +1,4 @@
-ghost use Rattle.std.specs.Prelude.{◌≡◌, IfOk};
+ghost use Rattle.std.specs.Prelude.{◌≡◌, Ok, IfOk};
 
 use crate::{Bytes, NoMemory};
 
@@ -10,13 +10,17 @@ pub trait Value: Sized + Send {
 }
 
 impl Value for u32 {
-    fn copy(&self) -> Result<u32, NoMemory> {
+    fn copy(&self) -> Result<u32, NoMemory>
+        ensures { result ≡ Ok self.now }
+    {
         Ok(*self)
     }
 }
 
 impl Value for u64 {
-    fn copy(&self) -> Result<u64, NoMemory> {
+    fn copy(&self) -> Result<u64, NoMemory>
+        ensures { result ≡ Ok self.now }
+    {
         Ok(*self)
     }
 }

@@ -1,5 +1,5 @@
 -- What texts that never fail tell. (Own.)
-use Rattle.std.specs.Prelude.{◌≡◌, ℕ, List, [], length, min, Option, None, Some, unwrap_or}
+use Rattle.std.specs.Prelude.{◌≡◌, ℕ, List, [], Option, None, Some, unwrap_or}
 use Rattle.qtc_outside.specs.declared.sure_texts.SureTexts.{SureTexts}
 use Rattle.qtc_outside.specs.Shelf.{text_under}
 use Rattle.qtc_outside.specs.ShelfLeft.{left_of}

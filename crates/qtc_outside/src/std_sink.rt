@@ -19,11 +19,12 @@ pub struct StdSink {
 
 impl StdSink {
     ghost use Rattle.std.specs.Prelude.{◌≡◌};
-    ghost use Rattle.qtc_outside.specs.StdSink.{stream_faults};
+    ghost use Rattle.qtc_outside.specs.StdSink.{goes_to_error, stream_faults};
 
     /// The standard error where `error`, else the standard output.
     pub fn new(rt: &HostRuntime, error: bool) -> StdSink
-        ensures { stream_faults result ≡ 0 }
+        ensures stream { goes_to_error result ≡ error }
+        ensures faults { stream_faults result ≡ 0 }
     {
         let stream = if error {
             Stream::Error(rt.stderr())
@@ -52,7 +53,7 @@ impl Sink for StdSink {
     ghost use Rattle.std.specs.Prelude.{◌≡◌, ◌≤◌, ◌<◌, length, take, [], None, IfOk, OnErr};
     ghost use Rattle.qtc_outside.specs.Counts.{Rose, faults_after};
     ghost use Rattle.qtc_outside.specs.Writing.{Takes};
-    ghost use Rattle.qtc_outside.specs.StdSink.{stream_faults};
+    ghost use Rattle.qtc_outside.specs.StdSink.{goes_to_error, stream_faults};
 
     ghost got = { λ _. None };
 
@@ -70,6 +71,7 @@ impl Sink for StdSink {
         ensures never_falls { stream_faults self.old ≤ stream_faults self.new }
 
         ensures one_fault { stream_faults self.new ≡ faults_after (stream_faults self.old) result }
+        ensures stream { goes_to_error self.new ≡ goes_to_error self.old }
     {
         match self.write_some(piece) {
             Some(count) => Ok(count),

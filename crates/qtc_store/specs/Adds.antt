@@ -1,4 +1,4 @@
--- Additions that are offered one after the other, of which some are refused.
+-- Additions that are offered one after the other, of which some are refused. (Own.)
 use Rattle.std.specs.Prelude.{◌≡◌, ◌≤◌, Bool, true, false, ◌&&◌, nat_lt, if◌then◌else◌, is_none, unwrap_or, IsSome, List, [], ◌∷◌, ◌++◌, length, fold}
 use Rattle.qtc_store.specs.declared.batch.Batch.{Batch}
 use Rattle.qtc_store.specs.declared.batch.Addition.{Addition}

@@ -1,4 +1,4 @@
--- What a store is seen as: its mode, and its accepted batches in order of their begins.
+-- What a store is seen as: its mode, and its accepted batches in order of their begins. What its queries answer is after Qt's ResultStoreBase; the refusals and their order are own.
 use Rattle.std.specs.Prelude.{ℕ, ◌≡◌, ◌+◌, ◌<◌, ◌≤◌, ◌==◌, ◌&&◌, nat_lt, nat_le, Bool, if◌then◌else◌, Option, Some, None, IsSome, is_some, unwrap_or, List, [], ◌∷◌, length, slice_get, All}
 use Rattle.std.specs.List.{list_any}
 use Rattle.std.specs.FinMap.{get}

@@ -1,4 +1,4 @@
--- The laws of the table of calls, in the words of a future's caller.
+-- The laws of the table of calls, in the words of a future's caller. (Own.)
 use Rattle.std.specs.Prelude.{◌≡◌, ◌<◌, ◌↔◌, ℕ, false, List, [], ◌++◌, All, Contains, IsTrue}
 use Rattle.qtc_base.specs.declared.ranges.Range.{Range}
 use Rattle.qtc_events.specs.Flags.{Standing, new_flags, flags_in, word_of}

@@ -1,9 +1,11 @@
--- Additions that are offered one after the other, of which some are refused.
-use Rattle.std.specs.Prelude.{◌≡◌, ◌≤◌, Bool, true, false, ◌&&◌, nat_lt, if◌then◌else◌, is_none, unwrap_or, IsSome, List, [], ◌∷◌, ◌++◌, length, fold}
+-- Additions that are offered one after the other, of which some are refused. (Own.)
+use Rattle.std.specs.Prelude.{ℕ, ◌≡◌, ◌≤◌, Bool, true, false, ◌&&◌, nat_lt, if◌then◌else◌, is_none, unwrap_or, IsSome, List, [], ◌∷◌, ◌++◌, length, fold}
+use Rattle.std.specs.FinMap.{get}
 use Rattle.qtc_store.specs.declared.batch.Batch.{Batch}
 use Rattle.qtc_store.specs.declared.batch.Addition.{Addition}
-use Rattle.qtc_store.specs.Batches.{greatest_end}
-use Rattle.qtc_store.specs.Stored.{Stored, refusal_of, with_batch}
+use Rattle.qtc_store.specs.Batches.{greatest_end, in_order}
+use Rattle.qtc_store.specs.Results.{results}
+use Rattle.qtc_store.specs.Stored.{Stored, refusal_of, value_at, with_batch}
 
 -- the batch that an addition is where these were accepted before; without a begin it goes at the greatest end
 abbrev pub batch_of : {V : Type 0} → List (Batch V) → Addition V → Batch V
@@ -23,6 +25,14 @@ accepted_with accepted addition = if is_accepted accepted (batch_of accepted add
 -- the accepted batches in order of arrival
 abbrev pub accepted_of : {V : Type 0} → List (Addition V) → List (Batch V)
 accepted_of additions = fold accepted_with [] additions
+
+-- the store of accepted batches
+abbrev pub store_of : {V : Type 0} → Bool → List (Batch V) → Stored V
+store_of filter accepted = record { filter = filter; batches = in_order accepted }
+
+-- the results are those of the batches in the order in which they came
+abbrev pub HasResultsOf : {V : Type 0} → Stored V → List (Batch V) → Type 0
+HasResultsOf store accepted = (index : ℕ) → value_at store index ≡ get (results accepted) index
 
 -- the store after one addition, refused or not
 abbrev pub offered : {V : Type 0} → Stored V → Addition V → Stored V

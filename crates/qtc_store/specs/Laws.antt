@@ -1,4 +1,4 @@
--- What the definitions of a filter store come to, in other words.
+-- What the definitions of a filter store come to, in other words. (Own.)
 use Rattle.std.specs.Prelude.{◌≡◌, ◌<◌, ℕ, false, nat_lt, List, filter, IsTrue}
 use Rattle.std.specs.List.{flat_map}
 use Rattle.qtc_store.specs.declared.batch.Batch.{Batch}

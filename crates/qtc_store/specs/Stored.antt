@@ -1,4 +1,4 @@
--- What a store is seen as: its mode, and its accepted batches in order of their begins.
+-- What a store is seen as: its mode, and its accepted batches in order of their begins. What its queries answer is after Qt's ResultStoreBase; the refusals and their order are own.
 use Rattle.std.specs.Prelude.{ℕ, ◌≡◌, ◌+◌, ◌<◌, ◌≤◌, ◌==◌, ◌&&◌, nat_lt, nat_le, Bool, if◌then◌else◌, Option, Some, None, IsSome, is_some, unwrap_or, List, [], ◌∷◌, length, slice_get, All}
 use Rattle.std.specs.List.{list_any}
 use Rattle.std.specs.FinMap.{get}
@@ -50,6 +50,18 @@ refusal None end = if nat_lt MOST_END end then Some PastEnd else None
 abbrev pub refusal_of : {V : Type 0} → List (Batch V) → (begin total : ℕ) → Option AddFault
 refusal_of batches begin total = refusal (least_covered batches begin total) (begin + total)
 
+-- the index is the least of the batch's that an accepted batch covers
+abbrev pub IsTaken : {V : Type 0} → Stored V → (begin total : ℕ) → ℕ → Type 0
+IsTaken store begin total index = least_covered store.batches begin total ≡ Some index
+
+-- none of them is covered, and the batch ends past the limit
+abbrev pub PassesEnd : {V : Type 0} → Stored V → (begin total : ℕ) → Type 0
+PassesEnd store begin total = (least_covered store.batches begin total ≡ None) × (MOST_END < begin + total)
+
+-- nothing refuses the batch
+abbrev pub NothingRefuses : {V : Type 0} → Stored V → (begin total : ℕ) → Type 0
+NothingRefuses store begin total = refusal_of store.batches begin total ≡ None
+
 -- there is a result at each number below this one, and none at it
 pub record IsFirstGap {V : Type 0} (store : Stored V) (number : ℕ) : Type 0 where
   pub below : (index : ℕ) → index < number → IsSome (value_at store index)
@@ -67,6 +79,9 @@ pub record IsFirstResults {V : Type 0} (store : Stored V) (values : List V) : Ty
 -- where a result goes that is added by itself: at its index, or where the last batch ends
 abbrev pub goes_at : {V : Type 0} → Stored V → Option ℕ → ℕ
 goes_at store index = unwrap_or index (greatest_end store.batches)
+
+abbrev pub batch_with : {V : Type 0} → ℕ → List V → ℕ → Batch V
+batch_with begin values total = record { begin = begin; values = values; total = total }
 
 -- with a batch that is accepted; one that covers nothing adds nothing
 abbrev pub with_batch : {V : Type 0} → Stored V → Batch V → Stored V

@@ -136,7 +136,7 @@ impl<V> ResultStore<V> {
 }
 
 impl<V: Drop> ResultStore<V> {
-    ghost use Rattle.qtc_store.specs.Stored.{count_of, goes_at, refusal_of, with_batch, KeepsResults};
+    ghost use Rattle.qtc_store.specs.Stored.{batch_with, count_of, goes_at, with_batch, NothingRefuses, IsTaken, KeepsResults, PassesEnd};
 
     /// Stores a batch that is not refused. An Err is want of memory.
     fn insert(&mut self, batch: Batch<V>) -> Result<(), AddFault>
@@ -187,10 +187,10 @@ impl<V: Drop> ResultStore<V> {
     pub fn add_batch(&mut self, begin: u32, values: List<V>, total: u32) -> Result<Added, AddFault>
         requires few { length values ≤ total }
         requires whole { self.old.filter ≡ false → length values ≡ total }
-        ensures taken { (index : ℕ) → (result ≡ Err (AddFault.Taken index)) ↔ (least_covered self.old.batches begin total ≡ Some index) }
-        ensures past_end { (result ≡ Err AddFault.PastEnd) ↔ ((least_covered self.old.batches begin total ≡ None) × (MOST_END < begin + total)) }
-        ensures accepted { OnOk result (refusal_of self.old.batches begin total ≡ None) }
-        ensures ok { OnOk result (self.new ≡ with_batch self.old (record { begin = begin; values = values; total = total })) }
+        ensures taken { (index : ℕ) → (result ≡ Err (AddFault.Taken index)) ↔ IsTaken self.old begin total index }
+        ensures past_end { (result ≡ Err AddFault.PastEnd) ↔ PassesEnd self.old begin total }
+        ensures accepted { OnOk result (NothingRefuses self.old begin total) }
+        ensures ok { OnOk result (self.new ≡ with_batch self.old (batch_with begin values total)) }
         ensures kept { OnOk result (KeepsResults self.old self.new) }
         ensures begin { IfOk result (λ added. added.begin ≡ begin) }
         ensures old_count { IfOk result (λ added. added.old_count ≡ count_of self.old) }
@@ -211,10 +211,10 @@ impl<V: Drop> ResultStore<V> {
     /// of one.
     pub fn add(&mut self, index: Option<u32>, value: V) -> Result<Added, AddFault>
         requires { self.old.filter ≡ true → IsSome index }
-        ensures taken { (i : ℕ) → (result ≡ Err (AddFault.Taken i)) ↔ (least_covered self.old.batches (goes_at self.old index) 1 ≡ Some i) }
-        ensures past_end { (result ≡ Err AddFault.PastEnd) ↔ ((least_covered self.old.batches (goes_at self.old index) 1 ≡ None) × (MOST_END < goes_at self.old index + 1)) }
-        ensures accepted { OnOk result (refusal_of self.old.batches (goes_at self.old index) 1 ≡ None) }
-        ensures ok { OnOk result (self.new ≡ with_batch self.old (record { begin = goes_at self.old index; values = value ∷ []; total = 1 })) }
+        ensures taken { (i : ℕ) → (result ≡ Err (AddFault.Taken i)) ↔ IsTaken self.old (goes_at self.old index) 1 i }
+        ensures past_end { (result ≡ Err AddFault.PastEnd) ↔ PassesEnd self.old (goes_at self.old index) 1 }
+        ensures accepted { OnOk result (NothingRefuses self.old (goes_at self.old index) 1) }
+        ensures ok { OnOk result (self.new ≡ with_batch self.old (batch_with (goes_at self.old index) (value ∷ []) 1)) }
         ensures kept { OnOk result (KeepsResults self.old self.new) }
         ensures begin { IfOk result (λ added. added.begin ≡ goes_at self.old index) }
         ensures old_count { IfOk result (λ added. added.old_count ≡ count_of self.old) }
@@ -235,11 +235,7 @@ impl<V: Drop> ResultStore<V> {
 }
 
 impl<V: Drop> ResultStore<V> {
-    ghost use Rattle.std.specs.FinMap.{get};
-    ghost use Rattle.qtc_store.specs.Batches.{in_order};
-    ghost use Rattle.qtc_store.specs.Results.{results};
-    ghost use Rattle.qtc_store.specs.Stored.{value_at};
-    ghost use Rattle.qtc_store.specs.Adds.{accepted_of, offered, Fits};
+    ghost use Rattle.qtc_store.specs.Adds.{accepted_of, offered, store_of, Fits, HasResultsOf};
 
     /// The store after these additions, offered one after the other, the refused ones dropped. So every
     /// query of it answers from the accepted ones. Err is want of memory.
@@ -249,10 +245,10 @@ impl<V: Drop> ResultStore<V> {
         additions: Vec<Addition<V>>,
     ) -> Result<ResultStore<V>, NoMemory>
         requires { All (Fits filter) additions.items }
-        ensures accepted { IfOk result (λ store. store ≡ record { filter = filter; batches = in_order (accepted_of additions.items) }) }
+        ensures accepted { IfOk result (λ store. store ≡ store_of filter (accepted_of additions.items)) }
 
         // In plain mode the order in which they came makes no difference.
-        ensures results { filter ≡ false → IfOk result (λ store. (index : ℕ) → value_at store index ≡ get (results (accepted_of additions.items)) index) }
+        ensures results { filter ≡ false → IfOk result (λ store. HasResultsOf store (accepted_of additions.items)) }
     {
         let mut store = ResultStore::new(alloc, filter);
         for addition in additions {

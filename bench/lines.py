@@ -6,7 +6,7 @@ The text has N pseudo-random numbers, one a line: x begins at 1 and becomes
 
     bench/lines.py [N ..]     N is 100000, 1000000 and 4000000 where none is given
 
-Each row has the seconds of the best of three runs (wall clock, from start to end of the process) and the
+Each row has the seconds of the best of five runs (wall clock, from start to end of the process) and the
 peak of the process's resident memory. The loops read the lines of the same text into a list and write them:
 as they are, or the SHA-256 digest of each in hexadecimal. The loop in C needs cc and the headers of OpenSSL,
 and is skipped where they are missing.
@@ -21,7 +21,7 @@ from pathlib import Path
 
 HERE = Path(__file__).resolve().parent
 TOP = HERE.parent
-RUNS = 3
+RUNS = 5
 
 SAME = """\
 import sys

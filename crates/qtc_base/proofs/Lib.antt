@@ -5,3 +5,6 @@ pub mod DecimalLemmas
 pub mod EscapeLaws
 pub mod EscapeLemmas
 pub mod ItemLemmas
+pub mod NumberLaws
+pub mod WordLaws
+pub mod WordLemmas

@@ -1,9 +1,10 @@
--- The laws of escapes, decimal texts and lines. (Own.)
-use Rattle.std.specs.Prelude.{◌≡◌, ◌≢◌, ℕ, ◌^◌, ◌<◌, ◌≤◌, ◌==◌, if◌then◌else◌, List, [], ◌∷◌, ◌++◌, All, length, slice_index}
+-- The laws of escapes, decimal texts, lines and words. (Own.)
+use Rattle.std.specs.Prelude.{◌≡◌, ◌≢◌, ℕ, ◌+◌, ◌-◌, ◌*◌, ◌^◌, ◌<◌, ◌≤◌, ◌==◌, if◌then◌else◌, List, [], ◌∷◌, ◌++◌, All, length, slice_index, replicate}
 use Rattle.std.specs.List.{flat_map}
 use Rattle.qtc_base.specs.Escape.{escaped}
 use Rattle.qtc_base.specs.Decimal.{decimal_text, IsNumber, number_of}
 use Rattle.qtc_base.specs.Lines.{lines}
+use Rattle.qtc_base.specs.Words.{words_by, AreWords}
 
 abbrev pub AreBytes : List ℕ → Type 0
 AreBytes text = All (λ byte. byte < 256) text
@@ -25,6 +26,12 @@ pub record Spells (most n : ℕ) (word : List ℕ) : Type 0 where
 abbrev pub DecimalsSpellTheirNumber : Type 0
 DecimalsSpellTheirNumber = (most n : ℕ) → 1 ≤ most → most ≤ 64 → n < 10 ^ most → Spells most n (decimal_text n)
 
+-- each digit counts ten times as much as the next, and leading zeros count nothing
+pub record DigitsCountByPlace : Type 0 where
+  pub none : number_of [] ≡ 0
+  pub first : (digit : ℕ) (word : List ℕ) → number_of (digit ∷ word) ≡ (digit - 48) * 10 ^ length word + number_of word
+  pub zeros : (count : ℕ) (word : List ℕ) → number_of (replicate count 48 ++ word) ≡ number_of word
+
 abbrev pub line_ended : List ℕ → List ℕ
 line_ended line = line ++ 10 ∷ []
 
@@ -44,3 +51,6 @@ LinesAreCutAtLineFeeds = (text : List ℕ) → AreLinesOf text (lines text)
 
 abbrev pub LinesAreTheOnlyCut : Type 0
 LinesAreTheOnlyCut = (text : List ℕ) (cut : List (List ℕ)) → AreLinesOf text cut → cut ≡ lines text
+
+abbrev pub WordsAreMaximalRuns : Type 0
+WordsAreMaximalRuns = (gaps text : List ℕ) → AreWords gaps text (words_by gaps text)

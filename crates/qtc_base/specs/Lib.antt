@@ -6,3 +6,5 @@ pub mod ItemsInside
 pub mod Laws
 pub mod Lines
 pub mod Pieces
+pub mod Ranges
+pub mod Words

@@ -28,6 +28,28 @@ impl Bytes {
         }
     }
 
+    /// The empty byte string, with room for `capacity` bytes. Err is want of memory.
+    pub fn with_capacity(alloc: Global, capacity: usize) -> Result<Bytes, NoMemory>
+        ensures { IfOk result (λ bytes. bytes ≡ []) }
+    {
+        let bytes = Vec::with_capacity(alloc, capacity)?;
+        Ok(Bytes { bytes })
+    }
+
+    /// The byte string of a vector's bytes, which stay where they are.
+    pub fn from_vec(bytes: Vec<u8>) -> Bytes
+        ensures { result ≡ bytes.items }
+    {
+        Bytes { bytes }
+    }
+
+    /// The vector of the bytes, which stay where they are.
+    pub fn into_vec(self) -> Vec<u8>
+        ensures { result.items ≡ self }
+    {
+        self.bytes
+    }
+
     /// A copy of `s`. Err is want of memory.
     pub fn from_slice(alloc: Global, s: &[u8]) -> Result<Bytes, NoMemory>
         ensures { IfOk result (λ bytes. bytes ≡ s.now) }
@@ -78,5 +100,24 @@ impl Bytes {
         let alloc = *self.bytes.allocator();
         let bytes = Vec::from_slice(alloc, self.bytes.as_slice())?;
         Ok(Bytes { bytes })
+    }
+}
+
+#[cfg(test)]
+mod tests {
+    use super::*;
+    use std::test::Fail;
+
+    #[test]
+    fn bytes_are_appended_and_cut(rt: HostRuntime) -> Result<(), Fail> {
+        let mut text = Bytes::with_capacity(rt.alloc(), 4)?;
+        assert!(rt; text.is_empty());
+        text.append(b"abc")?;
+        text.append(b"de")?;
+        assert_eq!(rt; text.len(), 5);
+        text.truncate(4);
+        let text = Bytes::from_vec(text.into_vec());
+        assert_eq!(rt; text.as_slice(), b"abcd".as_slice());
+        Ok(())
     }
 }

@@ -1,13 +1,16 @@
-ghost use Rattle.std.specs.Prelude.{◌≡◌, ◌++◌, ℕ, List, ◌<◌, ◌≤◌, false, OnOk, OnErr, length, take, slice_index};
+ghost use Rattle.std.specs.Prelude.{◌≡◌, ◌++◌, ℕ, List, ◌<◌, ◌≤◌, false, IsTrue, OnOk, OnErr, length, take, slice_index};
 ghost use Rattle.qtc_base.specs.Escape.{escaped, hex_escape, hex_glyph, is_plain as is_plain_byte};
 
 use crate::{Bytes, NoMemory};
+
+// The bytes that are tested at once.
+const BLOCK: usize = 32;
 
 /// Whether reports write the byte as it is.
 fn is_plain(byte: u8) -> bool
     ensures { result ≡ is_plain_byte byte }
 {
-    byte >= 0x20 && byte != 0x7f && byte != b'\\'
+    (byte >= 0x20) & (byte != 0x7f) & (byte != b'\\')
 }
 
 /// The digit of a number below 16, in lower case.
@@ -30,8 +33,42 @@ fn append_escape(byte: u8, into: &mut Bytes) -> Result<(), NoMemory>
     into.append(&[b'\\', b'x', hex_digit(byte / 16), hex_digit(byte % 16)])
 }
 
+/// Whether all bytes are plain: one test of the whole, without a branch a byte.
+fn is_all_plain(block: &[u8]) -> bool
+    ensures { IsTrue result → escaped block.now ≡ block.now }
+{
+    let mut plain = true;
+    for byte in block {
+        plain &= is_plain(*byte);
+    }
+    plain
+}
+
+/// How many bytes the whole blocks of plain bytes at the front have.
+fn plain_blocks(raw: &[u8]) -> usize
+    ensures within { result ≤ length raw.now }
+    ensures plain { escaped (take result raw.now) ≡ take result raw.now }
+{
+    let mut len = 0;
+    while raw.len() - len >= BLOCK && is_all_plain(&raw[len..len + BLOCK]) {
+        len += BLOCK;
+    }
+    len
+}
+
 /// How many bytes at the front of `raw` are plain.
 fn plain_len(raw: &[u8]) -> usize
+    ensures within { result ≤ length raw.now }
+    ensures plain { escaped (take result raw.now) ≡ take result raw.now }
+    ensures stop { result < length raw.now → is_plain_byte (slice_index raw.now result) ≡ false }
+{
+    let blocks = plain_blocks(raw);
+    let (_, rest) = raw.split_at(blocks);
+    blocks + plain_front(rest)
+}
+
+/// The same, byte by byte.
+fn plain_front(raw: &[u8]) -> usize
     ensures within { result ≤ length raw.now }
     ensures plain { escaped (take result raw.now) ≡ take result raw.now }
     ensures stop { result < length raw.now → is_plain_byte (slice_index raw.now result) ≡ false }
@@ -90,6 +127,10 @@ mod tests {
             (b"plain ~\x80\xff", b"plain ~\x80\xff"),
             (b"a\tb\\", b"a\\x09b\\x5c"),
             (b"\x00\x1f\x7f", b"\\x00\\x1f\\x7f"),
+            (
+                b"more than one block of plain bytes, and\x7fone more of them, with an end",
+                b"more than one block of plain bytes, and\\x7fone more of them, with an end",
+            ),
         ] {
             let mut text = Bytes::from_slice(rt.alloc(), b"> ")?;
             escape(raw, &mut text)?;

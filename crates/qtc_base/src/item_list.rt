@@ -1,7 +1,8 @@
-ghost use Rattle.std.specs.Prelude.{◌≡◌, ◌+◌, ◌≤◌, ◌<◌, ◌↔◌, [], ◌∷◌, ◌++◌, OnOk, OnErr, IsErrOf, IsTrue, length, slice_get, option_copied};
-ghost use Rattle.qtc_base.specs.Items.{total_bytes, PassesLimit};
+ghost use Rattle.std.specs.Prelude.{◌≡◌, ◌≤◌, ◌↔◌, [], ◌∷◌, ◌++◌, IfOk, OnOk, OnErr, IsErrOf, IsTrue, length, slice_get, option_copied};
+ghost use Rattle.qtc_base.specs.Items.{most_bytes, most_items, total_bytes, HasRoom, PassesLimit};
 ghost use Rattle.qtc_base.specs.Pieces.{begin_of};
 
+use crate::NoMemory;
 use std::alloc::{AllocError, AllocFailed, Global};
 use std::marker::Model;
 
@@ -44,7 +45,7 @@ fn begin_at(ends: &[u32], place: usize) -> usize
 
 /// Appends an item to the buffer, and where it ends to the ends. An Err leaves both as they were.
 fn append_item(bytes: &mut Vec<u8>, ends: &mut Vec<u32>, item: &[u8]) -> Result<(), AllocError>
-    requires { length (bytes.old.items ++ item.now) ≤ MOST_BYTES }
+    requires { length (bytes.old.items ++ item.now) ≤ most_bytes }
     ensures bytes { OnOk result (bytes.new.items ≡ bytes.old.items ++ item.now) }
     ensures ends { OnOk result (ends.new.items ≡ ends.old.items ++ length (bytes.old.items ++ item.now) ∷ []) }
     ensures err { OnErr result ((bytes.new.items ≡ bytes.old.items) × (ends.new.items ≡ ends.old.items)) }
@@ -90,6 +91,15 @@ impl Items {
         }
     }
 
+    /// The empty list, with room for so many items and bytes. Err is want of memory.
+    pub fn with_capacity(alloc: Global, items: usize, bytes: usize) -> Result<Items, NoMemory>
+        ensures { IfOk result (λ list. list ≡ []) }
+    {
+        let bytes = Vec::with_capacity(alloc, bytes)?;
+        let ends = Vec::with_capacity(alloc, items)?;
+        Ok(Items { bytes, ends })
+    }
+
     /// Appends a copy of `item`. An Err leaves the list as it was.
     pub fn push(&mut self, item: &[u8]) -> Result<(), PushFault>
         ensures ok { OnOk result (self.new ≡ self.old ++ item.now ∷ []) }
@@ -105,7 +115,7 @@ impl Items {
 
     /// Whether one more item of `len` bytes keeps the limits.
     fn has_room(&self, len: usize) -> bool
-        ensures { IsTrue result ↔ ((length self.now + 1 ≤ MOST_ITEMS) × (total_bytes self.now + len ≤ MOST_BYTES)) }
+        ensures { IsTrue result ↔ HasRoom self.now len }
     {
         self.ends.len() < MOST_ITEMS && len <= MOST_BYTES - self.bytes.len()
     }
@@ -147,11 +157,12 @@ impl Items {
 #[cfg(test)]
 mod tests {
     use super::*;
+    use crate::Bytes;
     use std::test::Fail;
 
     #[test]
     fn items_are_read_back(rt: HostRuntime) -> Result<(), Fail> {
-        let mut items = Items::new(rt.alloc());
+        let mut items = Items::with_capacity(rt.alloc(), 2, 2)?;
         assert!(rt; items.is_empty());
         for item in [b"ab".as_slice(), b"", b"c"] {
             items.push(item)?;
@@ -170,9 +181,25 @@ mod tests {
     }
 
     #[test]
+    fn one_byte_more_than_the_limit_is_full(rt: HostRuntime) -> Result<(), Fail> {
+        let mut items = Items::with_capacity(rt.alloc(), 10, 536_870_912)?;
+        let mut large = Bytes::with_capacity(rt.alloc(), 67_108_864)?;
+        for _ in 0..16_384 {
+            large.append(&[b'x'; 4096])?;
+        }
+        for _ in 0..8 {
+            items.push(large.as_slice())?;
+        }
+        assert_eq!(rt; items.push(b"x"), Err(PushFault::Full));
+        assert_eq!(rt; items.push(b""), Ok(()));
+        assert_eq!(rt; (items.len(), items.bytes()), (9, 536_870_912));
+        Ok(())
+    }
+
+    #[test]
     fn one_item_more_than_the_limit_is_full(rt: HostRuntime) -> Result<(), Fail> {
         let mut items = Items::new(rt.alloc());
-        for _ in 0..MOST_ITEMS {
+        for _ in 0..8_388_608 {
             items.push(b"")?;
         }
         assert_eq!(rt; items.push(b""), Err(PushFault::Full));

@@ -11,17 +11,20 @@ mod lists;
 mod memory;
 mod ranges;
 mod values;
+mod word_cut;
 
 pub use byte_string::Bytes;
 pub use decimals::{decimal, read_decimal};
 pub use escaping::escape;
 pub use item_list::{Items, MOST_BYTES, MOST_ITEMS, PushFault};
 pub use laws::{
-    decimals_spell_their_number, escapes_are_one_line, escapes_are_read_once,
-    lines_are_cut_at_line_feeds, lines_are_the_only_cut,
+    decimals_spell_their_number, digits_count_by_place, escapes_are_one_line,
+    escapes_are_read_once, lines_are_cut_at_line_feeds, lines_are_the_only_cut,
+    words_are_maximal_runs,
 };
 pub use line_cut::Lines;
 pub use lists::List;
 pub use memory::NoMemory;
 pub use ranges::Range;
 pub use values::Value;
+pub use word_cut::Words;

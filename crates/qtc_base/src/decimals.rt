@@ -11,7 +11,11 @@ pub fn decimal(value: u128, into: &mut Bytes) -> Result<(), NoMemory>
     ensures err { OnErr result (into.new ≡ into.old) }
 {
     let mut buffer = Buffer::new();
-    into.append(buffer.format(value).as_bytes())
+    // Numbers of 64 bits are written much faster.
+    match u64::try_from(value) {
+        Ok(small) => into.append(buffer.format(small).as_bytes()),
+        Err(_) => into.append(buffer.format(value).as_bytes()),
+    }
 }
 
 /// The number that `word` spells, leading zeros allowed; None exactly where it isn't 1 to `most` digits.

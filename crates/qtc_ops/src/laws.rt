@@ -8,7 +8,6 @@ ghost use Rattle.qtc_ops.specs.declared.fold_ops.FoldOp.TheVariants.{Count, Size
 ghost use Rattle.qtc_ops.specs.declared.predicates.Pred.{Pred};
 ghost use Rattle.qtc_ops.specs.declared.numbers.TheConstants.{NUMBER_DIGITS};
 ghost use Rattle.qtc_ops.specs.Counts.{AreCounts};
-ghost use Rattle.qtc_ops.specs.Fields.{fields, AreFields};
 ghost use Rattle.qtc_ops.specs.Folds.{folded, next_of, shown_of};
 ghost use Rattle.qtc_ops.specs.ItemValue.{ItemValue, kept};
 ghost use Rattle.qtc_ops.specs.Kept.{fails, fails_at, pairs, pairs_between, pairs_from};
@@ -22,11 +21,6 @@ ghost use Rattle.qtc_ops.specs.Wildcards.{Matches};
 /// An item counts as a number exactly where it is 1 to `NUMBER_DIGITS` decimal digits.
 pub fn digits_are_numbers()
     ensures { (item : List ℕ) → IsTrue (is_number item) ↔ IsNumber NUMBER_DIGITS item }
-{}
-
-/// The fields of an item are its maximal runs of bytes other than space and tab, in order.
-pub fn fields_are_maximal_runs()
-    ensures { (item : List ℕ) → AreFields item (fields item) }
 {}
 
 /// The test that keeps an item answers exactly where the predicate holds.

@@ -28,10 +28,9 @@ pub use folds::Fold;
 pub use item_faults::ItemFault;
 pub use item_fns::ItemFn;
 pub use laws::{
-    digits_are_numbers, fails_are_what_fails, fields_are_maximal_runs, folds_count_and_add,
-    folds_go_from_the_left, greatest_is_greatest, joins_separate, pairs_are_what_is_kept,
-    pairs_stand_by_range, patterns_match_part_by_part, sorted_values_ascend, tallies_count,
-    tests_decide_predicates,
+    digits_are_numbers, fails_are_what_fails, folds_count_and_add, folds_go_from_the_left,
+    greatest_is_greatest, joins_separate, pairs_are_what_is_kept, pairs_stand_by_range,
+    patterns_match_part_by_part, sorted_values_ascend, tallies_count, tests_decide_predicates,
 };
 pub use list_ops::{ListOp, apply_list};
 pub use numbers::NUMBER_DIGITS;

@@ -1,5 +1,5 @@
-ghost use Rattle.std.specs.Prelude.{◌≡◌, ◌++◌, ◌≤◌, ◌↔◌, OnOk, OnErr, IsSome, IfSome};
-ghost use Rattle.qtc_base.specs.Decimal.{decimal_text, IsNumber, number_of};
+ghost use Rattle.std.specs.Prelude.{◌≡◌, ◌++◌, ◌≤◌, ◌↔◌, OnOk, OnErr, IsSome, IfSome, All, length};
+ghost use Rattle.qtc_base.specs.Decimal.{decimal_text, IsDigit, IsNumber, number_of};
 
 use crate::{Bytes, NoMemory};
 use itoa::Buffer;
@@ -18,6 +18,41 @@ pub fn decimal(value: u128, into: &mut Bytes) -> Result<(), NoMemory>
     }
 }
 
+// The most digits whose numbers all fit 64 bits.
+const SMALL: usize = 19;
+
+/// The number that a few digits spell. Sums of 64 bits cost half of what those of 128 bits do.
+fn read_small(word: &[u8]) -> Option<u64>
+    requires { length word.now ≤ SMALL }
+    ensures digits { IsSome result ↔ All IsDigit word.now }
+    ensures value { IfSome result (λ n. n ≡ number_of word.now) }
+{
+    let mut value = 0u64;
+    for byte in word {
+        if !byte.is_ascii_digit() {
+            return None;
+        }
+        value = 10 * value + u64::from(*byte - b'0');
+    }
+    Some(value)
+}
+
+/// The number that many digits spell.
+fn read_large(word: &[u8]) -> Option<u128>
+    requires { length word.now ≤ 38 }
+    ensures digits { IsSome result ↔ All IsDigit word.now }
+    ensures value { IfSome result (λ n. n ≡ number_of word.now) }
+{
+    let mut value = 0u128;
+    for byte in word {
+        if !byte.is_ascii_digit() {
+            return None;
+        }
+        value = 10 * value + u128::from(*byte - b'0');
+    }
+    Some(value)
+}
+
 /// The number that `word` spells, leading zeros allowed; None exactly where it isn't 1 to `most` digits.
 pub fn read_decimal(word: &[u8], most: u32) -> Option<u128>
     requires { most ≤ 38 }
@@ -27,14 +62,11 @@ pub fn read_decimal(word: &[u8], most: u32) -> Option<u128>
     if word.is_empty() || word.len() > most as usize {
         return None;
     }
-    let mut value = 0u128;
-    for byte in word {
-        if !byte.is_ascii_digit() {
-            return None;
-        }
-        value = 10 * value + u128::from(*byte - b'0');
+    if word.len() > SMALL {
+        return read_large(word);
     }
-    Some(value)
+    let small = read_small(word)?;
+    Some(u128::from(small))
 }
 
 #[cfg(test)]

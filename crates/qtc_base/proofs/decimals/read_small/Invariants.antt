@@ -1,6 +1,6 @@
 use Rattle.std.proofs.Common.{◌≡◌, ◌<◌, ◌^◌, ℕ, take, get_or}
 use Rattle.qtc_base.specs.Decimal.{number_of, IsDigit}
-use Rattle.qtc_base.proofs.decimals.read_decimal.Given as goal
+use Rattle.qtc_base.proofs.decimals.read_small.Given as goal
 
 abbrev pub invariant-loop-byte : goal.invariant-loop-byte
 invariant-loop-byte l =

@@ -1,2 +1,3 @@
 pub mod ShelfLemmas
 pub mod WritingLemmas
+pub mod LoadingLemmas

@@ -1,27 +1,20 @@
 -- What texts in memory tell. (Own.)
-use Rattle.std.specs.Prelude.{◌≡◌, ℕ, ◌⊎◌, List, length, min, Option, None, Some, IsNone, Contains}
+use Rattle.std.specs.Prelude.{◌≡◌, ℕ, ◌⊎◌, List, length, min, None, Some, IsNone, Contains}
 use Rattle.qtc_outside.specs.Counts.{risen}
+use Rattle.qtc_outside.specs.Source.{Source}
 use Rattle.qtc_outside.specs.declared.mem_texts.MemTexts.{MemTexts}
 use Rattle.qtc_outside.specs.Shelf.{text_under}
 use Rattle.qtc_outside.specs.ShelfLeft.{left_of}
 
-abbrev pub held_by : MemTexts → List ℕ → Option (List ℕ)
-held_by texts name = text_under texts.shelf.texts name
-
-abbrev pub rest_of : MemTexts → Option (List ℕ)
-rest_of texts = Some (left_of texts.shelf)
-
-abbrev pub taken_of : MemTexts → ℕ
-taken_of texts = texts.taken
-
-abbrev pub faults_of : MemTexts → ℕ
-faults_of texts = texts.plan.faults
-
-abbrev pub blamed_of : MemTexts → Option (List ℕ)
-blamed_of texts = texts.blamed
-
-abbrev pub chosen_of : MemTexts → Option (List ℕ)
-chosen_of texts = texts.chosen
+abbrev pub texts_source : MemTexts → Source
+texts_source texts = record {
+  held = λ name. text_under texts.shelf.texts name;
+  rest = Some (left_of texts.shelf);
+  taken = texts.taken;
+  faults = texts.plan.faults;
+  blamed = texts.blamed;
+  chosen = texts.chosen;
+}
 
 -- nothing was asked of the texts yet
 pub record IsFresh (pairs : List (List ℕ × List ℕ)) (most : ℕ) (plan : List ℕ) (texts : MemTexts) : Type 0 where
@@ -46,9 +39,10 @@ ReadFails texts = Contains texts.plan.fails texts.plan.calls
 abbrev pub give_len : MemTexts → ℕ → ℕ
 give_len texts room = min (min (length (left_of texts.shelf)) room) texts.most
 
--- one call was counted, and what was set at the start stays
-pub record IsCallAfter (old new : MemTexts) : Type 0 where
+-- one call was counted, with so many faults then, and what was set at the start stays
+pub record IsCallAfter (old : MemTexts) (count : ℕ) (new : MemTexts) : Type 0 where
   pub calls : new.plan.calls ≡ risen old.plan.calls 1
+  pub faults : new.plan.faults ≡ count
   pub fails : new.plan.fails ≡ old.plan.fails
   pub held : new.shelf.texts ≡ old.shelf.texts
   pub most : new.most ≡ old.most

@@ -1,4 +1,5 @@
-ghost use Rattle.std.specs.Prelude.{◌≤◌, length, IfSome};
+ghost use Rattle.std.specs.Prelude.{◌≤◌, length, IfSome, OnSome};
+ghost use Rattle.std.specs.Str.{IsUtf8};
 
 use crate::{Failed, Texts};
 use qtc_base::Bytes;
@@ -44,45 +45,31 @@ impl<R: Files> FileTexts<R> {
         }
     }
 
-    /// The file with the name, where it can be opened.
-    fn open_file(&self, name: &Bytes) -> Option<R::File> {
+    /// The file with the name, where that is UTF-8 and the file can be opened.
+    fn open_file(&self, name: &Bytes) -> Option<R::File>
+        ensures { OnSome result (IsUtf8 name.now) }
+    {
         let path = str::from_utf8(name.as_slice()).ok()?;
         File::open(&self.files, path).ok()
     }
 }
 
 impl<R: Files> Texts for FileTexts<R> {
-    ghost use Rattle.std.specs.Prelude.{◌≡◌, ◌≤◌, ◌<◌, length, Some, None, IsSome, IfSome, OnOk, OnErr, IfOk};
-    ghost use Rattle.qtc_outside.specs.Counts.{risen, Rose, faults_after};
-    ghost use Rattle.qtc_outside.specs.Reading.{GivesNext, chosen_after};
-    ghost use Rattle.qtc_outside.specs.FileTexts.{file_held, file_rest, file_taken, file_faults, file_blamed, file_chosen};
+    ghost use Rattle.std.specs.Prelude.{◌≡◌, ◌<◌, length, Some, IsSome, OnOk, OnErr, IfOk};
+    ghost use Rattle.std.specs.Str.{IsUtf8};
+    ghost use Rattle.qtc_outside.specs.Counts.{faults_after};
+    ghost use Rattle.qtc_outside.specs.Source.{Chooses, Faults, Gives};
+    ghost use Rattle.qtc_outside.specs.FileTexts.{files_source};
 
-    ghost held = { file_held };
-
-    ghost rest = { file_rest };
-
-    ghost taken = { file_taken };
-
-    ghost faults = { file_faults };
-
-    ghost blamed = { file_blamed };
-
-    ghost chosen = { file_chosen };
+    ghost source = { files_source };
 
     fn choose(&mut self, name: Bytes) -> Result<(), Failed>
-        ensures chosen { OnOk result (file_chosen self.new ≡ Some name) }
-        ensures whole { OnOk result (file_rest self.new ≡ file_held self.old name) }
-        ensures unblamed { OnOk result (file_blamed self.new ≡ file_blamed self.old) }
+        ensures ok { OnOk result (Chooses (files_source self.old) name (files_source self.new)) }
+        ensures err { OnErr result (Faults (files_source self.old) (Some name) (files_source self.new)) }
 
-        ensures not_chosen { OnErr result (file_chosen self.new ≡ None) }
-        ensures fault { OnErr result (Rose (file_faults self.old) (file_faults self.new)) }
-        ensures blamed { OnErr result (file_blamed self.new ≡ Some name) }
-
-        ensures holds { file_held self.new ≡ file_held self.old }
-        ensures taken { file_taken self.new ≡ file_taken self.old }
-        ensures never_falls { file_faults self.old ≤ file_faults self.new }
-
-        ensures one_fault { file_faults self.new ≡ faults_after (file_faults self.old) result }
+        // What the trait leaves open: a name that isn't UTF-8 fails, and how far the count of faults rises.
+        ensures utf8 { OnOk result (IsUtf8 name) }
+        ensures one_fault { self.new.faults ≡ faults_after self.old.faults result }
     {
         self.open = self.open_file(&name);
         if self.open.is_some() {
@@ -97,33 +84,23 @@ impl<R: Files> Texts for FileTexts<R> {
 
     fn read(&mut self, into: &mut [u8]) -> Result<usize, Failed>
         requires room { 0 < length into.old }
-        requires some_chosen { IsSome (file_chosen self.old) }
-
-        ensures within { IfOk result (λ count. count ≤ length into.old) }
-        ensures next { IfOk result (λ count. IfSome (file_rest self.old) (λ left. GivesNext left into.new count (file_rest self.new))) }
-        ensures counted { IfOk result (λ count. file_taken self.new ≡ risen (file_taken self.old) count) }
-        ensures unblamed { OnOk result (file_blamed self.new ≡ file_blamed self.old) }
-
-        ensures fault { OnErr result (Rose (file_faults self.old) (file_faults self.new)) }
-        ensures blamed { OnErr result (file_blamed self.new ≡ file_chosen self.old) }
-        ensures not_counted { OnErr result (file_taken self.new ≡ file_taken self.old) }
-
-        ensures chosen { file_chosen self.new ≡ chosen_after (file_chosen self.old) result }
-        ensures holds { file_held self.new ≡ file_held self.old }
-        ensures never_falls { file_faults self.old ≤ file_faults self.new }
-
-        ensures one_fault { file_faults self.new ≡ faults_after (file_faults self.old) result }
+        requires some_chosen { IsSome (files_source self.old).chosen }
+        ensures ok { IfOk result (λ count. Gives (files_source self.old) into.new count (files_source self.new)) }
+        ensures err { OnErr result (Faults (files_source self.old) (files_source self.old).chosen (files_source self.new)) }
+        ensures one_fault { self.new.faults ≡ faults_after self.old.faults result }
     {
         match next_bytes(&mut self.open, into) {
             Some(count) => {
                 self.taken = self.taken.saturating_add(count as u64);
                 if count == 0 {
+                    self.open = None;
                     self.chosen = None;
                 }
                 Ok(count)
             }
             None => {
                 self.faults = self.faults.saturating_add(1);
+                self.open = None;
                 self.blamed = self.chosen.take();
                 Err(Failed)
             }

@@ -16,7 +16,7 @@ pub struct MemSink {
 }
 
 impl MemSink {
-    ghost use Rattle.qtc_outside.specs.MemSink.{IsFreshSink, got_by};
+    ghost use Rattle.qtc_outside.specs.MemSink.{IsFreshSink, sink_intake};
 
     /// The empty sink. A write takes at most `most` bytes, and the writes whose numbers, from 0, stand in
     /// `fails` fail.
@@ -33,39 +33,30 @@ impl MemSink {
 
     /// What was taken so far.
     pub fn text(&self) -> &[u8]
-        ensures { Some result.now ≡ got_by self.now }
+        ensures { (sink_intake self.now).got ≡ Some result.now }
     {
         self.text.as_slice()
     }
 }
 
 impl Sink for MemSink {
-    ghost use Rattle.std.specs.Prelude.{◌≡◌, ◌≤◌, ◌<◌, length, take, [], IfOk, IsErr, OnErr};
-    ghost use Rattle.qtc_outside.specs.Counts.{Rose, faults_after};
-    ghost use Rattle.qtc_outside.specs.Writing.{Takes};
-    ghost use Rattle.qtc_outside.specs.MemSink.{got_by, faults_in, take_len, IsPlanned, IsWriteAfter};
+    ghost use Rattle.std.specs.Prelude.{◌≡◌, ◌<◌, length, IfOk, IsErr, OnErr};
+    ghost use Rattle.qtc_outside.specs.Counts.{faults_after};
+    ghost use Rattle.qtc_outside.specs.Intake.{TakesFront, TakesNothing};
+    ghost use Rattle.qtc_outside.specs.MemSink.{sink_intake, take_len, IsPlanned, IsWriteAfter};
 
-    ghost got = { got_by };
-
-    ghost faults = { faults_in };
+    ghost intake = { sink_intake };
 
     fn write(&mut self, piece: &[u8]) -> Result<usize, Failed>
-        requires some { 0 < length piece.now }
-
-        ensures least { IfOk result (λ count. 1 ≤ count) }
-        ensures within { IfOk result (λ count. count ≤ length piece.now) }
-        ensures takes { IfOk result (λ count. Takes (got_by self.old) (got_by self.new) (take count piece.now)) }
-
-        ensures fault { OnErr result (Rose (faults_in self.old) (faults_in self.new)) }
-        ensures nothing { OnErr result (Takes (got_by self.old) (got_by self.new) []) }
-        ensures never_falls { faults_in self.old ≤ faults_in self.new }
+        requires { 0 < length piece.now }
+        ensures ok { IfOk result (λ count. TakesFront (sink_intake self.old) piece.now count (sink_intake self.new)) }
+        ensures err { OnErr result (TakesNothing (sink_intake self.old) (sink_intake self.new)) }
 
         // What the trait leaves open: a planned call fails, want of memory fails another, and any other takes
         // all that it may.
         ensures planned { IsPlanned self.old → IsErr result }
-        ensures one_fault { faults_in self.new ≡ faults_after (faults_in self.old) result }
         ensures most { IfOk result (λ count. count ≡ take_len self.old piece.now) }
-        ensures call { IsWriteAfter self.old self.new }
+        ensures call { IsWriteAfter self.old (faults_after self.old.plan.faults result) self.new }
     {
         if self.plan.next_fails() {
             self.plan.count_fault();

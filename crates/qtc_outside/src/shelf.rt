@@ -1,6 +1,6 @@
 ghost use Rattle.std.specs.Prelude.{◌≡◌, ◌≤◌, ◌<◌, ◌↔◌, [], length, take, drop, min, unwrap_or, Some, IsSome, IsTrue};
 ghost use Rattle.qtc_outside.specs.Shelf.{text_under, text_at};
-ghost use Rattle.qtc_outside.specs.Reading.{GivesNext};
+ghost use Rattle.qtc_outside.specs.Source.{GivesNext};
 
 use qtc_base::{Bytes, List};
 
@@ -30,13 +30,12 @@ impl Shelf {
         ensures text { text_at self.now.texts result ≡ unwrap_or (text_under self.now.texts name.now) [] }
         ensures found { result < length self.now.texts ↔ IsSome (text_under self.now.texts name.now) }
     {
-        let texts = self.texts.as_slice();
-        for place in 0..texts.len() {
-            if texts[place].0.as_slice() == name {
+        for (place, pair) in self.texts.as_slice().iter().enumerate() {
+            if pair.0.as_slice() == name {
                 return place;
             }
         }
-        texts.len()
+        self.texts.len()
     }
 
     /// Goes to the beginning of the first text with the name, or to the empty text where there is none.
@@ -54,11 +53,9 @@ impl Shelf {
     fn text(&self) -> &[u8]
         ensures { result.now ≡ text_at self.now.texts self.now.place }
     {
-        let texts = self.texts.as_slice();
-        if self.place < texts.len() {
-            texts[self.place].1.as_slice()
-        } else {
-            &[]
+        match self.texts.as_slice().get(self.place) {
+            Some(pair) => pair.1.as_slice(),
+            None => &[],
         }
     }
 

@@ -19,12 +19,12 @@ pub struct StdSink {
 
 impl StdSink {
     ghost use Rattle.std.specs.Prelude.{◌≡◌};
-    ghost use Rattle.qtc_outside.specs.StdSink.{goes_to_error, stream_faults};
+    ghost use Rattle.qtc_outside.specs.StdSink.{goes_to_error, stream_intake};
 
     /// The standard error where `error`, else the standard output.
     pub fn new(rt: &HostRuntime, error: bool) -> StdSink
         ensures stream { goes_to_error result ≡ error }
-        ensures faults { stream_faults result ≡ 0 }
+        ensures faults { (stream_intake result).faults ≡ 0 }
     {
         let stream = if error {
             Stream::Error(rt.stderr())
@@ -50,27 +50,18 @@ impl StdSink {
 }
 
 impl Sink for StdSink {
-    ghost use Rattle.std.specs.Prelude.{◌≡◌, ◌≤◌, ◌<◌, length, take, [], None, IfOk, OnErr};
-    ghost use Rattle.qtc_outside.specs.Counts.{Rose, faults_after};
-    ghost use Rattle.qtc_outside.specs.Writing.{Takes};
-    ghost use Rattle.qtc_outside.specs.StdSink.{goes_to_error, stream_faults};
+    ghost use Rattle.std.specs.Prelude.{◌≡◌, ◌<◌, length, IfOk, OnErr};
+    ghost use Rattle.qtc_outside.specs.Counts.{faults_after};
+    ghost use Rattle.qtc_outside.specs.Intake.{TakesFront, TakesNothing};
+    ghost use Rattle.qtc_outside.specs.StdSink.{goes_to_error, stream_intake};
 
-    ghost got = { λ _. None };
-
-    ghost faults = { stream_faults };
+    ghost intake = { stream_intake };
 
     fn write(&mut self, piece: &[u8]) -> Result<usize, Failed>
-        requires some { 0 < length piece.now }
-
-        ensures least { IfOk result (λ count. 1 ≤ count) }
-        ensures within { IfOk result (λ count. count ≤ length piece.now) }
-        ensures takes { IfOk result (λ count. Takes None None (take count piece.now)) }
-
-        ensures fault { OnErr result (Rose (stream_faults self.old) (stream_faults self.new)) }
-        ensures nothing { OnErr result (Takes None None []) }
-        ensures never_falls { stream_faults self.old ≤ stream_faults self.new }
-
-        ensures one_fault { stream_faults self.new ≡ faults_after (stream_faults self.old) result }
+        requires { 0 < length piece.now }
+        ensures ok { IfOk result (λ count. TakesFront (stream_intake self.old) piece.now count (stream_intake self.new)) }
+        ensures err { OnErr result (TakesNothing (stream_intake self.old) (stream_intake self.new)) }
+        ensures one_fault { self.new.faults ≡ faults_after self.old.faults result }
         ensures stream { goes_to_error self.new ≡ goes_to_error self.old }
     {
         match self.write_some(piece) {

@@ -10,17 +10,17 @@ use std::alloc::Global;
 pub struct SureSink {
     text: Vec<u8>,
     told: bool,
-    pub room: u64,
+    room: u64,
     ghost roomy: { room ≤ vec_capacity text },
 }
 
 impl SureSink {
-    ghost use Rattle.qtc_outside.specs.SureSink.{got_surely};
+    ghost use Rattle.qtc_outside.specs.SureSink.{sure_intake, room_of};
 
     /// The empty sink, with room for `room` bytes. Err is want of memory.
     pub fn new(alloc: Global, room: u64) -> Result<SureSink, NoMemory>
-        ensures got { IfOk result (λ sink. got_surely sink ≡ Some []) }
-        ensures room { IfOk result (λ sink. sink.room ≡ room) }
+        ensures got { IfOk result (λ sink. (sure_intake sink).got ≡ Some []) }
+        ensures room { IfOk result (λ sink. room_of sink ≡ room) }
     {
         let text = Vec::with_capacity(alloc, room as usize)?;
         Ok(SureSink {
@@ -32,30 +32,21 @@ impl SureSink {
 }
 
 impl Sink for SureSink {
-    ghost use Rattle.std.specs.Prelude.{◌≡◌, ◌+◌, ◌≤◌, ◌<◌, length, IfOk, IfSome, IsSome, OnErr, IsOk, take, [], Some};
-    ghost use Rattle.qtc_outside.specs.Counts.{Rose};
-    ghost use Rattle.qtc_outside.specs.Writing.{Takes};
-    ghost use Rattle.qtc_outside.specs.SureSink.{got_surely};
+    ghost use Rattle.std.specs.Prelude.{◌≡◌, ◌<◌, length, IfOk, IfSome, OnErr};
+    ghost use Rattle.qtc_outside.specs.Intake.{TakesFront, TakesNothing};
+    ghost use Rattle.qtc_outside.specs.SureSink.{sure_intake, room_of, TellsMore};
 
-    ghost got = { got_surely };
-
-    ghost faults = { λ _. 0 };
+    ghost intake = { sure_intake };
 
     fn write(&mut self, piece: &[u8]) -> Result<usize, Failed>
-        requires some { 0 < length piece.now }
+        requires { 0 < length piece.now }
+        ensures ok { IfOk result (λ count. TakesFront (sure_intake self.old) piece.now count (sure_intake self.new)) }
+        ensures err { OnErr result (TakesNothing (sure_intake self.old) (sure_intake self.new)) }
 
-        ensures least { IfOk result (λ count. 1 ≤ count) }
-        ensures within { IfOk result (λ count. count ≤ length piece.now) }
-        ensures takes { IfOk result (λ count. Takes (got_surely self.old) (got_surely self.new) (take count piece.now)) }
+        // The piece is taken whole, and what fits the room is told.
         ensures whole { result ≡ Ok (length piece.now) }
-
-        ensures fault { OnErr result (Rose 0 0) }
-        ensures nothing { OnErr result (Takes (got_surely self.old) (got_surely self.new) []) }
-        ensures never_falls { 0 ≤ 0 }
-
-        // What fits the room is told.
-        ensures told { IfSome (got_surely self.old) (λ got. length got + length piece.now ≤ self.old.room → IsSome (got_surely self.new)) }
-        ensures room { self.new.room ≡ self.old.room }
+        ensures told { IfSome (sure_intake self.old).got (TellsMore (room_of self.old) piece.now (sure_intake self.new)) }
+        ensures room { room_of self.new ≡ room_of self.old }
     {
         if self.told && self.text.extend_from_slice(piece).is_err() {
             self.told = false;

@@ -28,36 +28,15 @@ impl SureTexts {
 }
 
 impl Texts for SureTexts {
-    ghost use Rattle.std.specs.Prelude.{◌≡◌, ◌≤◌, ◌<◌, length, min, Some, None, IsSome, IfSome, IsOk, OnOk, OnErr, IfOk};
-    ghost use Rattle.qtc_outside.specs.Counts.{risen, Rose};
-    ghost use Rattle.qtc_outside.specs.Reading.{GivesNext, chosen_after};
-    ghost use Rattle.qtc_outside.specs.SureTexts.{held_surely, left_surely, taken_surely, blamed_surely, chosen_surely, pairs_of};
+    ghost use Rattle.std.specs.Prelude.{◌≡◌, ◌<◌, length, Some, IsSome, IsOk, OnOk, OnErr, IfOk};
+    ghost use Rattle.qtc_outside.specs.Source.{Chooses, Faults, Gives};
+    ghost use Rattle.qtc_outside.specs.SureTexts.{sure_source, pairs_of, give_len};
 
-    ghost held = { held_surely };
-
-    ghost rest = { left_surely };
-
-    ghost taken = { taken_surely };
-
-    ghost faults = { λ _. 0 };
-
-    ghost blamed = { blamed_surely };
-
-    ghost chosen = { chosen_surely };
+    ghost source = { sure_source };
 
     fn choose(&mut self, name: Bytes) -> Result<(), Failed>
-        ensures chosen { OnOk result (chosen_surely self.new ≡ Some name) }
-        ensures whole { OnOk result (left_surely self.new ≡ held_surely self.old name) }
-        ensures unblamed { OnOk result (blamed_surely self.new ≡ blamed_surely self.old) }
-
-        ensures not_chosen { OnErr result (chosen_surely self.new ≡ None) }
-        ensures fault { OnErr result (Rose 0 0) }
-        ensures blamed { OnErr result (blamed_surely self.new ≡ Some name) }
-
-        ensures holds { held_surely self.new ≡ held_surely self.old }
-        ensures taken { taken_surely self.new ≡ taken_surely self.old }
-        ensures never_falls { 0 ≤ 0 }
-
+        ensures ok { OnOk result (Chooses (sure_source self.old) name (sure_source self.new)) }
+        ensures err { OnErr result (Faults (sure_source self.old) (Some name) (sure_source self.new)) }
         ensures never_fails { IsOk result }
         ensures pairs { pairs_of self.new ≡ pairs_of self.old }
     {
@@ -68,23 +47,11 @@ impl Texts for SureTexts {
 
     fn read(&mut self, into: &mut [u8]) -> Result<usize, Failed>
         requires room { 0 < length into.old }
-        requires some_chosen { IsSome (chosen_surely self.old) }
-
-        ensures within { IfOk result (λ count. count ≤ length into.old) }
-        ensures next { IfOk result (λ count. IfSome (left_surely self.old) (λ left. GivesNext left into.new count (left_surely self.new))) }
-        ensures counted { IfOk result (λ count. taken_surely self.new ≡ risen (taken_surely self.old) count) }
-        ensures unblamed { OnOk result (blamed_surely self.new ≡ blamed_surely self.old) }
-
-        ensures fault { OnErr result (Rose 0 0) }
-        ensures blamed { OnErr result (blamed_surely self.new ≡ chosen_surely self.old) }
-        ensures not_counted { OnErr result (taken_surely self.new ≡ taken_surely self.old) }
-
-        ensures chosen { chosen_surely self.new ≡ chosen_after (chosen_surely self.old) result }
-        ensures holds { held_surely self.new ≡ held_surely self.old }
-        ensures never_falls { 0 ≤ 0 }
-
+        requires some_chosen { IsSome (sure_source self.old).chosen }
+        ensures ok { IfOk result (λ count. Gives (sure_source self.old) into.new count (sure_source self.new)) }
+        ensures err { OnErr result (Faults (sure_source self.old) (sure_source self.old).chosen (sure_source self.new)) }
         ensures never_fails { IsOk result }
-        ensures gives { IfOk result (λ count. IfSome (left_surely self.old) (λ left. count ≡ min (length left) (length into.old))) }
+        ensures gives { IfOk result (λ count. count ≡ give_len self.old (length into.old)) }
         ensures pairs { pairs_of self.new ≡ pairs_of self.old }
     {
         let count = self.shelf.give(into, usize::MAX);

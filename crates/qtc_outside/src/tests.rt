@@ -1,9 +1,9 @@
 ghost use Rattle.std.specs.Prelude.{◌≡◌, codes, IfOk, Some};
-ghost use Rattle.qtc_outside.specs.SureSink.{got_surely};
+ghost use Rattle.qtc_outside.specs.SureSink.{sure_intake};
 
 use crate::{
-    Failed, FileTexts, Gate, LoadFault, MemSink, MemTexts, NoGate, Sink, StdSink, SureSink,
-    SureTexts, Texts, WriteFault, read_text, write_all,
+    Failed, FileTexts, LoadFault, MemSink, MemTexts, Sink, StdSink, SureSink, SureTexts, Texts,
+    WriteFault, read_text, write_all,
 };
 use qtc_base::{Bytes, List, NoMemory};
 use std::alloc::Global;
@@ -147,7 +147,7 @@ fn a_sink_gets_a_front_where_a_write_fails(rt: HostRuntime) -> Result<(), Fail> 
 
 // A sink that got a piece as long as its room, and tells it.
 fn filled(alloc: Global) -> Result<SureSink, NoMemory>
-    ensures { IfOk result (λ sink. got_surely sink ≡ Some (codes "abc")) }
+    ensures { IfOk result (λ sink. (sure_intake sink).got ≡ Some (codes "abc")) }
 {
     let mut sink = SureSink::new(alloc, 3)?;
     let _taken = sink.write(b"abc");
@@ -172,14 +172,4 @@ fn the_standard_error_takes_a_piece(rt: HostRuntime) {
         ),
         Ok(())
     );
-}
-
-fn pass<G: Gate>(gate: &G) {
-    gate.enter(0, 7);
-}
-
-#[test]
-fn the_open_gate_lets_pass(rt: HostRuntime) {
-    pass(&NoGate);
-    assert!(rt; NoGate == NoGate);
 }

@@ -1,6 +1,5 @@
-ghost use Rattle.std.specs.Prelude.{◌≡◌, ℕ, ◌<◌, ◌≤◌, List, length, take, OnOk, IfErr, OnErr, Option};
-ghost use Rattle.qtc_outside.specs.Counts.{Rose};
-ghost use Rattle.qtc_outside.specs.Writing.{Takes};
+ghost use Rattle.std.specs.Prelude.{OnOk, IfErr};
+ghost use Rattle.qtc_outside.specs.Intake.{Takes, IsCut};
 
 use crate::Sink;
 
@@ -13,11 +12,8 @@ pub struct WriteFault {
 /// Writes the whole piece, offering all that is left at each write. Err where the sink failed, which then
 /// got a front of the piece.
 pub fn write_all<S: Sink>(sink: &mut S, piece: &[u8]) -> Result<(), WriteFault>
-    ensures ok { OnOk result (Takes (S.got sink.old) (S.got sink.new) piece.now) }
-    ensures front { IfErr result (λ fault. Takes (S.got sink.old) (S.got sink.new) (take fault.taken piece.now)) }
-    ensures short { IfErr result (λ fault. fault.taken < length piece.now) }
-    ensures fault { OnErr result (Rose (S.faults sink.old) (S.faults sink.new)) }
-    ensures never_falls { S.faults sink.old ≤ S.faults sink.new }
+    ensures ok { OnOk result (Takes (S.intake sink.old) piece.now (S.intake sink.new)) }
+    ensures err { IfErr result (λ fault. IsCut (S.intake sink.old) piece.now fault.taken (S.intake sink.new)) }
 {
     let mut taken = 0;
     while taken < piece.len() {

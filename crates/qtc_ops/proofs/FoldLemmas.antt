@@ -56,7 +56,7 @@ folded-sum values = added-first number_of values
 
 -- ---- texts
 
-join-merge : (separator text value : List ℕ) (values : List (List ℕ)) → joined_by separator ((text ++ (separator ++ value)) ∷ values) ≡ joined_by separator (text ∷ value ∷ values)
+pub join-merge : (separator text value : List ℕ) (values : List (List ℕ)) → joined_by separator ((text ++ (separator ++ value)) ∷ values) ≡ joined_by separator (text ∷ value ∷ values)
 join-merge separator text value [] = refl
 join-merge separator text value (next ∷ values) =
     append_assoc text (separator ++ value) (separator ++ joined_by separator (next ∷ values))

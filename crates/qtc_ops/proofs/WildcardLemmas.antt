@@ -6,7 +6,7 @@ use Rattle.std.proofs.lemmas.List.{take-append-drop}
 use Rattle.std.proofs.lemmas.Grind.{common_steps}
 use Rattle.std.proofs.Math.Nat.{mul-le-mul_right}
 use Rattle.memchr.specs.Find.{IsFirstByte, is_byte}
-use Rattle.qtc_ops.specs.Wildcards.{StandsFor, Matches, some_suffix, after_byte, fits, wildcard, TakesOne, CannotFit}
+use Rattle.qtc_ops.specs.Wildcards.{StandsFor, Matches, some_suffix, after_byte, fits, question_mark, star, wildcard, TakesOne, CannotFit}
 
 -- ---- a suffix that passes
 
@@ -42,25 +42,25 @@ some_suffix-twice test (x ∷ item) h =
 
 -- ---- one symbol
 
-pub wildcard-star : (symbol : ℕ) (pattern item : List ℕ) → eqb symbol 42 ≡ true → wildcard (symbol ∷ pattern) item ≡ some_suffix (wildcard pattern) item
+pub wildcard-star : (symbol : ℕ) (pattern item : List ℕ) → eqb symbol star ≡ true → wildcard (symbol ∷ pattern) item ≡ some_suffix (wildcard pattern) item
 wildcard-star symbol pattern item h = rw h refl
 
-pub wildcard-byte : (symbol : ℕ) (pattern item : List ℕ) → eqb symbol 42 ≡ false → wildcard (symbol ∷ pattern) item ≡ after_byte symbol (wildcard pattern) item
+pub wildcard-byte : (symbol : ℕ) (pattern item : List ℕ) → eqb symbol star ≡ false → wildcard (symbol ∷ pattern) item ≡ after_byte symbol (wildcard pattern) item
 wildcard-byte symbol pattern item h = rw h refl
 
 -- ---- the test answers as the relation says
 
-matches-star : (symbol : ℕ) (pattern item : List ℕ) (k : ℕ) → symbol ≡ 42 → Matches pattern (drop k item) → Matches (symbol ∷ pattern) item
-matches-star symbol pattern item k star m = record {
+matches-star : (symbol : ℕ) (pattern item : List ℕ) (k : ℕ) → symbol ≡ star → Matches pattern (drop k item) → Matches (symbol ∷ pattern) item
+matches-star symbol pattern item k is_star m = record {
   pieces = take k item ∷ m.pieces;
-  each = (inr (inr star), m.each);
+  each = (inr (inr is_star), m.each);
   whole = ap (λ s. take k item ++ s) m.whole ∙ take-append-drop k item;
 }
 
 matches-byte : (symbol byte : ℕ) (pattern item : List ℕ) → fits symbol byte ≡ true → Matches pattern item → Matches (symbol ∷ pattern) (byte ∷ item)
 matches-byte symbol byte pattern item h m = record {
   pieces = (byte ∷ []) ∷ m.pieces;
-  each = (⊎_elim (λ any. inr (inl (eqb-true symbol 63 any, refl))) (λ same. inl (ap (λ b. b ∷ []) (sym (eqb-true symbol byte same)))) (or_cases _ _ h), m.each);
+  each = (⊎_elim (λ any. inr (inl (eqb-true symbol question_mark any, refl))) (λ same. inl (ap (λ b. b ∷ []) (sym (eqb-true symbol byte same)))) (or_cases _ _ h), m.each);
   whole = ap (λ s. byte ∷ s) m.whole;
 }
 
@@ -74,21 +74,21 @@ wildcard-to [] [] h = record { pieces = []; each = tt; whole = refl }
 wildcard-to [] (byte ∷ item) h = let none = eqb-true (suc (length item)) 0 h in absurd (omega arith)
 wildcard-to (symbol ∷ pattern) item h =
     ⊎_elim
-    (λ star.
-    let found = some_suffix-to (wildcard pattern) item (sym (wildcard-star symbol pattern item star) ∙ h) in
-    matches-star symbol pattern item found.0 (eqb-true symbol 42 star) (wildcard-to pattern (drop found.0 item) found.2))
+    (λ is_star.
+    let found = some_suffix-to (wildcard pattern) item (sym (wildcard-star symbol pattern item is_star) ∙ h) in
+    matches-star symbol pattern item found.0 (eqb-true symbol star is_star) (wildcard-to pattern (drop found.0 item) found.2))
     (λ other. after_byte-matches symbol pattern item (λ rest. wildcard-to pattern rest) (sym (wildcard-byte symbol pattern item other) ∙ h))
-    (cases_Bool (eqb symbol 42))
+    (cases_Bool (eqb symbol star))
 
-after_byte-from : (symbol : ℕ) (pattern piece rest : List ℕ) → eqb symbol 42 ≡ false → StandsFor symbol piece → wildcard pattern rest ≡ true → after_byte symbol (wildcard pattern) (piece ++ rest) ≡ true
+after_byte-from : (symbol : ℕ) (pattern piece rest : List ℕ) → eqb symbol star ≡ false → StandsFor symbol piece → wildcard pattern rest ≡ true → after_byte symbol (wildcard pattern) (piece ++ rest) ≡ true
 after_byte-from symbol pattern [] rest other stands h =
-    absurd (⊎_elim (λ itself. cc) (⊎_elim (λ any. omega (arith, any.1)) (λ star. both_ways _ other (eq-eqb symbol 42 star))) stands)
+    absurd (⊎_elim (λ itself. cc) (⊎_elim (λ any. omega (arith, any.1)) (λ is_star. both_ways _ other (eq-eqb symbol star is_star))) stands)
 after_byte-from symbol pattern (byte ∷ []) rest other stands h =
     and_from _ _
-    (⊎_elim (λ itself. or_right _ _ (eq-eqb symbol byte cc)) (⊎_elim (λ any. or_left _ _ (eq-eqb symbol 63 any.0)) (λ star. absurd (both_ways _ other (eq-eqb symbol 42 star)))) stands)
+    (⊎_elim (λ itself. or_right _ _ (eq-eqb symbol byte cc)) (⊎_elim (λ any. or_left _ _ (eq-eqb symbol question_mark any.0)) (λ is_star. absurd (both_ways _ other (eq-eqb symbol star is_star)))) stands)
     h
 after_byte-from symbol pattern (byte ∷ next ∷ piece) rest other stands h =
-    absurd (⊎_elim (λ itself. cc) (⊎_elim (λ any. omega (arith, any.1)) (λ star. both_ways _ other (eq-eqb symbol 42 star))) stands)
+    absurd (⊎_elim (λ itself. cc) (⊎_elim (λ any. omega (arith, any.1)) (λ is_star. both_ways _ other (eq-eqb symbol star is_star))) stands)
 
 wildcard-from_pieces : (pattern : List ℕ) (pieces : List (List ℕ)) → AllZip StandsFor pattern pieces → wildcard pattern (concat pieces) ≡ true
 wildcard-from_pieces [] [] each = refl
@@ -98,9 +98,9 @@ wildcard-from_pieces (symbol ∷ pattern) (piece ∷ pieces) each =
     let more = wildcard-from_pieces pattern pieces each.1 in
     let rest : drop (length piece) (piece ++ concat pieces) ≡ concat pieces = grind (arith, common_steps) in
     ⊎_elim
-    (λ star. wildcard-star symbol pattern (piece ++ concat pieces) star ∙ some_suffix-from (wildcard pattern) (piece ++ concat pieces) (length piece) (grind (arith, common_steps)) (rw rest more))
+    (λ is_star. wildcard-star symbol pattern (piece ++ concat pieces) is_star ∙ some_suffix-from (wildcard pattern) (piece ++ concat pieces) (length piece) (grind (arith, common_steps)) (rw rest more))
     (λ other. wildcard-byte symbol pattern (piece ++ concat pieces) other ∙ after_byte-from symbol pattern piece (concat pieces) other each.0 more)
-    (cases_Bool (eqb symbol 42))
+    (cases_Bool (eqb symbol star))
 
 pub wildcard-decides : (pattern item : List ℕ) → Decides (wildcard pattern item) (Matches pattern item)
 wildcard-decides pattern item = (wildcard-to pattern item, λ m. ap (wildcard pattern) (sym m.whole) ∙ wildcard-from_pieces pattern m.pieces m.each)
@@ -119,15 +119,15 @@ covered_or true t u v h e = e
 covered_or false true u v h e = absurd (false≢true (h refl))
 covered_or false false u v h e = e
 
-pub star-goes_on : (rest bytes after from : List ℕ) → IsCovered (42 ∷ rest) bytes after from → goes_on (42 ∷ rest) bytes after from ≡ goes_on rest bytes rest bytes
+pub star-goes_on : (rest bytes after from : List ℕ) → IsCovered (star ∷ rest) bytes after from → goes_on (star ∷ rest) bytes after from ≡ goes_on rest bytes rest bytes
 star-goes_on rest bytes after from covered =
-    covered_or (wildcard (42 ∷ rest) bytes) (later_suffix (wildcard after) from) (wildcard rest bytes) (later_suffix (wildcard rest) bytes)
+    covered_or (wildcard (star ∷ rest) bytes) (later_suffix (wildcard after) from) (wildcard rest bytes) (later_suffix (wildcard rest) bytes)
     (λ h. some_suffix-twice (wildcard rest) bytes (covered h)) (some_suffix-split (wildcard rest) bytes)
 
 pub star-covered : (rest bytes : List ℕ) → IsCovered rest bytes rest bytes
 star-covered rest bytes h = some_suffix-later (wildcard rest) bytes h
 
-pub byte-goes_on : (symbol byte : ℕ) (symbols bytes after from : List ℕ) → eqb symbol 42 ≡ false → fits symbol byte ≡ true → goes_on (symbol ∷ symbols) (byte ∷ bytes) after from ≡ goes_on symbols bytes after from
+pub byte-goes_on : (symbol byte : ℕ) (symbols bytes after from : List ℕ) → eqb symbol star ≡ false → fits symbol byte ≡ true → goes_on (symbol ∷ symbols) (byte ∷ bytes) after from ≡ goes_on symbols bytes after from
 byte-goes_on symbol byte symbols bytes after from other fit = rw (other, fit) refl
 
 after_byte-later : (symbol : ℕ) (test : List ℕ → Bool) (bytes : List ℕ) → some_suffix (after_byte symbol test) bytes ≡ true → later_suffix test bytes ≡ true
@@ -138,13 +138,13 @@ after_byte-later symbol test (byte ∷ bytes) h =
     (λ later. some_suffix-later test bytes (after_byte-later symbol test bytes later))
     (or_cases _ _ h)
 
-some_suffix-byte : (symbol : ℕ) (symbols bytes : List ℕ) → eqb symbol 42 ≡ false → some_suffix (wildcard (symbol ∷ symbols)) bytes ≡ true → later_suffix (wildcard symbols) bytes ≡ true
+some_suffix-byte : (symbol : ℕ) (symbols bytes : List ℕ) → eqb symbol star ≡ false → some_suffix (wildcard (symbol ∷ symbols)) bytes ≡ true → later_suffix (wildcard symbols) bytes ≡ true
 some_suffix-byte symbol symbols bytes other h =
     let found = some_suffix-to (wildcard (symbol ∷ symbols)) bytes h in
     let shown : after_byte symbol (wildcard symbols) (drop found.0 bytes) ≡ true = sym (wildcard-byte symbol symbols (drop found.0 bytes) other) ∙ found.2 in
     after_byte-later symbol (wildcard symbols) bytes (some_suffix-from (after_byte symbol (wildcard symbols)) bytes found.0 found.1 shown)
 
-pub byte-covered : (symbol byte : ℕ) (symbols bytes after from : List ℕ) → eqb symbol 42 ≡ false → IsCovered (symbol ∷ symbols) (byte ∷ bytes) after from → IsCovered symbols bytes after from
+pub byte-covered : (symbol byte : ℕ) (symbols bytes after from : List ℕ) → eqb symbol star ≡ false → IsCovered (symbol ∷ symbols) (byte ∷ bytes) after from → IsCovered symbols bytes after from
 byte-covered symbol byte symbols bytes after from other covered h = some_suffix-byte symbol symbols (byte ∷ bytes) other (covered h)
 
 pub retry-goes_on : (symbols bytes after : List ℕ) (first : ℕ) (from : List ℕ) → wildcard symbols bytes ≡ false → goes_on symbols bytes after (first ∷ from) ≡ goes_on after from after from
@@ -154,10 +154,10 @@ retry-goes_on symbols bytes after first from none = rw none (some_suffix-split (
 pub end-none : (byte : ℕ) (bytes : List ℕ) → wildcard [] (byte ∷ bytes) ≡ false
 end-none byte bytes = false_from_ne_true _ (λ h. let none = eqb-true (suc (length bytes)) 0 h in omega arith)
 
-pub byte-none : (symbol byte : ℕ) (symbols bytes : List ℕ) → eqb symbol 42 ≡ false → fits symbol byte ≡ false → wildcard (symbol ∷ symbols) (byte ∷ bytes) ≡ false
+pub byte-none : (symbol byte : ℕ) (symbols bytes : List ℕ) → eqb symbol star ≡ false → fits symbol byte ≡ false → wildcard (symbol ∷ symbols) (byte ∷ bytes) ≡ false
 byte-none symbol byte symbols bytes other unfit = rw (other, unfit) refl
 
-pub empty-none : (symbol : ℕ) (symbols after from : List ℕ) → eqb symbol 42 ≡ false → IsCovered (symbol ∷ symbols) [] after from → goes_on (symbol ∷ symbols) [] after from ≡ false
+pub empty-none : (symbol : ℕ) (symbols after from : List ℕ) → eqb symbol star ≡ false → IsCovered (symbol ∷ symbols) [] after from → goes_on (symbol ∷ symbols) [] after from ≡ false
 empty-none symbol symbols after from other covered =
     let here : wildcard (symbol ∷ symbols) [] ≡ false = rw other refl in
     let later : later_suffix (wildcard after) from ≡ false = false_from_ne_true _ (λ h. both_ways _ here (covered h)) in
@@ -191,9 +191,9 @@ Tries-at {pattern} {item} {symbols} {bytes} {after} {from} others more e f t =
 goes_on-again : (after from : List ℕ) → goes_on after from after from ≡ some_suffix (wildcard after) from
 goes_on-again after from = sym (some_suffix-split (wildcard after) from)
 
-pub Tries-star : (pattern item symbols bytes after from rest later : List ℕ) → symbols ≡ 42 ∷ rest → some_suffix (wildcard rest) bytes ≡ some_suffix (wildcard rest) later → Tries pattern item symbols bytes after from → Tries pattern item rest later rest later
-Tries-star pattern item symbols bytes after from rest later star same t =
-    let at = Tries-at (42 ∷ rest) bytes star refl t in
+pub Tries-star : (pattern item symbols bytes after from rest later : List ℕ) → symbols ≡ star ∷ rest → some_suffix (wildcard rest) bytes ≡ some_suffix (wildcard rest) later → Tries pattern item symbols bytes after from → Tries pattern item rest later rest later
+Tries-star pattern item symbols bytes after from rest later is_star same t =
+    let at = Tries-at (star ∷ rest) bytes is_star refl t in
     let kept = at.few in
     record {
       told = at.told ∙ (star-goes_on rest bytes after from at.covered ∙ (goes_on-again rest bytes ∙ (same ∙ sym (goes_on-again rest later))));
@@ -203,10 +203,10 @@ Tries-star pattern item symbols bytes after from rest later star same t =
     }
 
 -- no `*` at the front
-other_first : (symbol : ℕ) (symbols left : List ℕ) → symbols ≡ symbol ∷ left → (get_or symbols 0 0 ≡ 42 → ⊥) → eqb symbol 42 ≡ false
-other_first symbol symbols left is other = ne_eqb symbol 42 (λ e. other (ap (λ s. get_or s 0 0) is ∙ e))
+other_first : (symbol : ℕ) (symbols left : List ℕ) → symbols ≡ symbol ∷ left → (get_or symbols 0 0 ≡ star → ⊥) → eqb symbol star ≡ false
+other_first symbol symbols left is other = ne_eqb symbol star (λ e. other (ap (λ s. get_or s 0 0) is ∙ e))
 
-pub Tries-one : (pattern item symbols bytes after from symbols_left bytes_left : List ℕ) → (get_or symbols 0 0 ≡ 42 → ⊥) → TakesOne symbols bytes symbols_left bytes_left → Tries pattern item symbols bytes after from → Tries pattern item symbols_left bytes_left after from
+pub Tries-one : (pattern item symbols bytes after from symbols_left bytes_left : List ℕ) → (get_or symbols 0 0 ≡ star → ⊥) → TakesOne symbols bytes symbols_left bytes_left → Tries pattern item symbols bytes after from → Tries pattern item symbols_left bytes_left after from
 Tries-one pattern item symbols bytes after from symbols_left bytes_left other one t =
     let at = Tries-at (one.symbol ∷ symbols_left) (one.byte ∷ bytes_left) one.symbols_are one.bytes_are t in
     let plain = other_first one.symbol symbols symbols_left one.symbols_are other in
@@ -219,13 +219,13 @@ Tries-one pattern item symbols bytes after from symbols_left bytes_left other on
     }
 
 -- the symbols match nothing at the front of the bytes
-pub IsStuck : (symbols bytes : List ℕ) → (get_or symbols 0 0 ≡ 42 → ⊥) → 1 ≤ length bytes → CannotFit symbols bytes → wildcard symbols bytes ≡ false
+pub IsStuck : (symbols bytes : List ℕ) → (get_or symbols 0 0 ≡ star → ⊥) → 1 ≤ length bytes → CannotFit symbols bytes → wildcard symbols bytes ≡ false
 IsStuck symbols [] other some none = absurd (omega arith)
 IsStuck [] (byte ∷ bytes) other some none = end-none byte bytes
 IsStuck (symbol ∷ symbols) (byte ∷ bytes) other some none =
-    ⊎_elim (λ empty. absurd (omega arith)) (⊎_elim (λ empty. absurd (omega arith)) (λ unfit. byte-none symbol byte symbols bytes (ne_eqb symbol 42 other) unfit)) none
+    ⊎_elim (λ empty. absurd (omega arith)) (⊎_elim (λ empty. absurd (omega arith)) (λ unfit. byte-none symbol byte symbols bytes (ne_eqb symbol star other) unfit)) none
 
-pub Tries-again : (pattern item symbols bytes after from later : List ℕ) → (get_or symbols 0 0 ≡ 42 → ⊥) → 1 ≤ length bytes → CannotFit symbols bytes → 1 ≤ length from → some_suffix (wildcard after) (take (length from - 1) (drop 1 from)) ≡ some_suffix (wildcard after) later → Tries pattern item symbols bytes after from → Tries pattern item after later after later
+pub Tries-again : (pattern item symbols bytes after from later : List ℕ) → (get_or symbols 0 0 ≡ star → ⊥) → 1 ≤ length bytes → CannotFit symbols bytes → 1 ≤ length from → some_suffix (wildcard after) (take (length from - 1) (drop 1 from)) ≡ some_suffix (wildcard after) later → Tries pattern item symbols bytes after from → Tries pattern item after later after later
 Tries-again pattern item symbols bytes after from later other more none some same t =
     let shorter = take (length from - 1) (drop 1 from) in
     let at = ap (λ f. goes_on symbols bytes after f) (front from some) in
@@ -237,16 +237,16 @@ Tries-again pattern item symbols bytes after from later other more none some sam
     }
 
 -- nothing is left to try
-pub Tries-none : (pattern item symbols bytes after from : List ℕ) → (get_or symbols 0 0 ≡ 42 → ⊥) → 1 ≤ length bytes → CannotFit symbols bytes → length from < 1 → Tries pattern item symbols bytes after from → wildcard pattern item ≡ false
+pub Tries-none : (pattern item symbols bytes after from : List ℕ) → (get_or symbols 0 0 ≡ star → ⊥) → 1 ≤ length bytes → CannotFit symbols bytes → length from < 1 → Tries pattern item symbols bytes after from → wildcard pattern item ≡ false
 Tries-none pattern item symbols bytes after [] other more none ended t = t.told ∙ rw (IsStuck symbols bytes other more none) refl
 Tries-none pattern item symbols bytes after (first ∷ from) other more none ended t = absurd (omega arith)
 
 -- at the end of the bytes the pattern has matched just where no symbol is left
-pub Tries-end : (pattern item symbols bytes after from : List ℕ) → (get_or symbols 0 0 ≡ 42 → ⊥) → length bytes < 1 → Tries pattern item symbols bytes after from → wildcard pattern item ≡ eqb (length symbols) 0
+pub Tries-end : (pattern item symbols bytes after from : List ℕ) → (get_or symbols 0 0 ≡ star → ⊥) → length bytes < 1 → Tries pattern item symbols bytes after from → wildcard pattern item ≡ eqb (length symbols) 0
 Tries-end pattern item symbols (byte ∷ bytes) after from other none t = absurd (omega arith)
 Tries-end pattern item [] [] after from other none t = t.told
 Tries-end pattern item (symbol ∷ symbols) [] after from other none t =
-    (t.told ∙ empty-none symbol symbols after from (ne_eqb symbol 42 other) t.covered) ∙ sym (ne_eqb (suc (length symbols)) 0 (λ e. omega arith))
+    (t.told ∙ empty-none symbol symbols after from (ne_eqb symbol star other) t.covered) ∙ sym (ne_eqb (suc (length symbols)) 0 (λ e. omega arith))
 
 -- the measure falls where the bytes to try are fewer
 pub fewer-steps : (a b m s t : ℕ) → a < b → s ≤ m → a * (m + 1) + s < b * (m + 1) + t
@@ -273,14 +273,14 @@ seek-end bytes = some_suffix-from (wildcard []) bytes (length bytes) (omega arit
     drop_all_bytes : drop (length bytes) bytes ≡ []
     drop_all_bytes = grind (arith, common_steps)
 
-first_byte-none : (symbol : ℕ) (symbols bytes : List ℕ) (k : ℕ) → eqb symbol 42 ≡ false → eqb symbol 63 ≡ false → k < length bytes → eqb (get_or bytes k 0) symbol ≡ false → wildcard (symbol ∷ symbols) (drop k bytes) ≡ false
-first_byte-none symbol symbols [] k star any lt other = absurd (omega arith)
-first_byte-none symbol symbols (byte ∷ bytes) zero star any lt other = byte-none symbol byte symbols bytes star (rw any (ne_eqb symbol byte (λ e. both_ways _ other (eq-eqb byte symbol (sym e)))))
-first_byte-none symbol symbols (byte ∷ bytes) (suc k) star any lt other = first_byte-none symbol symbols bytes k star any (omega arith) other
+first_byte-none : (symbol : ℕ) (symbols bytes : List ℕ) (k : ℕ) → eqb symbol star ≡ false → eqb symbol question_mark ≡ false → k < length bytes → eqb (get_or bytes k 0) symbol ≡ false → wildcard (symbol ∷ symbols) (drop k bytes) ≡ false
+first_byte-none symbol symbols [] k is_star any lt other = absurd (omega arith)
+first_byte-none symbol symbols (byte ∷ bytes) zero is_star any lt other = byte-none symbol byte symbols bytes is_star (rw any (ne_eqb symbol byte (λ e. both_ways _ other (eq-eqb byte symbol (sym e)))))
+first_byte-none symbol symbols (byte ∷ bytes) (suc k) is_star any lt other = first_byte-none symbol symbols bytes k is_star any (omega arith) other
 
-pub seek-to : (symbol : ℕ) (symbols bytes : List ℕ) (place : ℕ) → eqb symbol 42 ≡ false → eqb symbol 63 ≡ false → place ≤ length bytes → ((k : ℕ) → k < place → eqb (get_or bytes k 0) symbol ≡ false) → some_suffix (wildcard (symbol ∷ symbols)) bytes ≡ some_suffix (wildcard (symbol ∷ symbols)) (drop place bytes)
-seek-to symbol symbols bytes place star any le none =
-    some_suffix-skip (wildcard (symbol ∷ symbols)) bytes place le (λ k lt. first_byte-none symbol symbols bytes k star any (omega arith) (none k lt))
+pub seek-to : (symbol : ℕ) (symbols bytes : List ℕ) (place : ℕ) → eqb symbol star ≡ false → eqb symbol question_mark ≡ false → place ≤ length bytes → ((k : ℕ) → k < place → eqb (get_or bytes k 0) symbol ≡ false) → some_suffix (wildcard (symbol ∷ symbols)) bytes ≡ some_suffix (wildcard (symbol ∷ symbols)) (drop place bytes)
+seek-to symbol symbols bytes place is_star any le none =
+    some_suffix-skip (wildcard (symbol ∷ symbols)) bytes place le (λ k lt. first_byte-none symbol symbols bytes k is_star any (omega arith) (none k lt))
 
 pub seek-empty : (symbols bytes : List ℕ) → length symbols < 1 → some_suffix (wildcard symbols) bytes ≡ wildcard symbols []
 seek-empty [] bytes none = seek-end bytes
@@ -292,13 +292,13 @@ found-before symbol bytes (Some place) found =
     let high = found.0.high in (omega arith, λ k lt. false_from_ne_true _ (found.0.before k (omega arith) lt))
 found-before symbol bytes None found = (omega arith, λ k lt. false_from_ne_true _ (found k (omega arith) lt))
 
-pub seek-found : (symbols bytes : List ℕ) (r : Option ℕ) (place : ℕ) → 1 ≤ length symbols → (get_or symbols 0 0 ≡ 42 → ⊥) → (get_or symbols 0 0 ≡ 63 → ⊥) → IsFirstByte (is_byte (get_or symbols 0 0)) bytes r → place ≡ unwrap_or r (length bytes) → some_suffix (wildcard symbols) bytes ≡ some_suffix (wildcard symbols) (take (length bytes - place) (drop place bytes))
-seek-found [] bytes r place some star any found is = absurd (omega arith)
-seek-found (symbol ∷ symbols) bytes r place some star any found is =
+pub seek-found : (symbols bytes : List ℕ) (r : Option ℕ) (place : ℕ) → 1 ≤ length symbols → (get_or symbols 0 0 ≡ star → ⊥) → (get_or symbols 0 0 ≡ question_mark → ⊥) → IsFirstByte (is_byte (get_or symbols 0 0)) bytes r → place ≡ unwrap_or r (length bytes) → some_suffix (wildcard symbols) bytes ≡ some_suffix (wildcard symbols) (take (length bytes - place) (drop place bytes))
+seek-found [] bytes r place some is_star any found is = absurd (omega arith)
+seek-found (symbol ∷ symbols) bytes r place some is_star any found is =
     let before = found-before symbol bytes r found in
     let le : place ≤ length bytes = omega (arith, before.0) in
     let rest : take (length bytes - place) (drop place bytes) ≡ drop place bytes = grind (arith, common_steps) in
-    rw rest (seek-to symbol symbols bytes place (ne_eqb symbol 42 star) (ne_eqb symbol 63 any) le (λ k lt. before.1 k (omega arith)))
+    rw rest (seek-to symbol symbols bytes place (ne_eqb symbol star is_star) (ne_eqb symbol question_mark any) le (λ k lt. before.1 k (omega arith)))
 
 -- ---- a pattern of two parts
 

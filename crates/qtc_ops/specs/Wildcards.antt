@@ -1,10 +1,17 @@
 -- Patterns with `*` and `?`. (Own.)
-use Rattle.std.specs.Prelude.{◌≡◌, ◌⊎◌, ℕ, Bool, true, false, slice_index, ◌||◌, ◌&&◌, ◌==◌, List, [], ◌∷◌, length, if◌then◌else◌}
+use Rattle.std.specs.Prelude.{◌≡◌, ◌⊎◌, ℕ, Bool, true, false, codes, slice_index, ◌||◌, ◌&&◌, ◌==◌, List, [], ◌∷◌, length, if◌then◌else◌}
 use Rattle.std.specs.List.{AllZip, concat}
+
+-- the two symbols that stand for other bytes than themselves
+abbrev pub star : ℕ
+star = slice_index (codes "*") 0
+
+abbrev pub question_mark : ℕ
+question_mark = slice_index (codes "?") 0
 
 -- what one symbol of a pattern stands for: itself, `?` for any one byte, `*` for any run of bytes
 abbrev pub StandsFor : ℕ → List ℕ → Type 0
-StandsFor symbol piece = (piece ≡ symbol ∷ []) ⊎ ((symbol ≡ 63) × (length piece ≡ 1)) ⊎ (symbol ≡ 42)
+StandsFor symbol piece = (piece ≡ symbol ∷ []) ⊎ ((symbol ≡ question_mark) × (length piece ≡ 1)) ⊎ (symbol ≡ star)
 
 -- the item can be cut into pieces, one for each symbol of the pattern, which stands for it
 pub record Matches (pattern item : List ℕ) : Type 0 where
@@ -19,7 +26,7 @@ some_suffix test (byte ∷ item) = test (byte ∷ item) || some_suffix test item
 
 -- whether a symbol other than `*` stands for the byte
 abbrev pub fits : ℕ → ℕ → Bool
-fits symbol byte = symbol == 63 || symbol == byte
+fits symbol byte = symbol == question_mark || symbol == byte
 
 -- whether the item begins with a byte for the symbol, and what is after it passes
 abbrev pub after_byte : ℕ → (List ℕ → Bool) → List ℕ → Bool
@@ -30,7 +37,7 @@ after_byte symbol test (byte ∷ item) = fits symbol byte && test item
 abbrev pub wildcard : List ℕ → List ℕ → Bool
 wildcard [] item = length item == 0
 wildcard (symbol ∷ pattern) item =
-    if symbol == 42 then some_suffix (wildcard pattern) item
+    if symbol == star then some_suffix (wildcard pattern) item
     else after_byte symbol (wildcard pattern) item
 
 -- the first symbol stands for the first byte, and these are left

@@ -16,6 +16,7 @@ mod numbers;
 mod op_fns;
 mod operations;
 mod predicates;
+mod prepared;
 mod tallies;
 #[cfg(test)]
 mod tests;

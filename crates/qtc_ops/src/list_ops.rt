@@ -34,11 +34,20 @@ fn sorted_values(values: List<Bytes>) -> Result<List<Bytes>, NoMemory>
     Ok(List::from_vec(values))
 }
 
+/// The bytes of all values together, at most as a buffer can have.
+fn total_len(values: &[Bytes]) -> usize {
+    let mut total = 0usize;
+    for value in values {
+        total = total.saturating_add(value.len());
+    }
+    total
+}
+
 /// All values as one.
 fn joined_values(alloc: Global, values: &[Bytes]) -> Result<List<Bytes>, NoMemory>
     ensures { IfOk result (λ list. list ≡ concat values.now ∷ []) }
 {
-    let mut whole = Bytes::new(alloc);
+    let mut whole = Bytes::with_capacity(alloc, total_len(values))?;
     for value in values {
         whole.append(value.as_slice())?;
     }

@@ -1,8 +1,8 @@
 ghost use Rattle.std.specs.Prelude.{◌≡◌, []};
-ghost use Rattle.qtc_ops.specs.ItemValue.{Answers};
 ghost use Rattle.qtc_ops.specs.Operations.{value_of};
+ghost use Rattle.qtc_ops.specs.Prepared.{op_of};
 
-use crate::maps::apply_map;
+use crate::prepared::Prepared;
 use crate::{ItemFault, ItemFn, ItemOp};
 use qtc_base::{Bytes, List};
 use std::alloc::Global;
@@ -11,7 +11,7 @@ use std::alloc::Global;
 #[derive(Drop)]
 pub struct OpFn {
     alloc: Global,
-    op: ItemOp,
+    op: Prepared,
     calls: List<u32>,
 }
 
@@ -23,34 +23,19 @@ impl OpFn {
     {
         OpFn {
             alloc,
-            op,
+            op: Prepared::new(op),
             calls: List::new(alloc),
         }
     }
 }
 
-/// The value of an item by an operation.
-fn apply_op(alloc: Global, op: &ItemOp, item: &[u8]) -> Result<Option<Bytes>, ItemFault>
-    ensures { Answers (value_of op.now item.now) result }
-{
-    match op {
-        ItemOp::Map(map) => apply_map(alloc, *map, item),
-        ItemOp::Keep { not, pred } => {
-            if pred.keeps(item) == *not {
-                return Ok(None);
-            }
-            Ok(Some(Bytes::from_slice(alloc, item)?))
-        }
-    }
-}
-
 impl ItemFn for OpFn {
-    ghost value = { λ f. value_of f.op };
+    ghost value = { λ f. value_of (op_of f.op) };
 
     ghost called = { λ f. f.calls };
 
     fn apply(&mut self, index: u32, item: &[u8]) -> Result<Option<Bytes>, ItemFault> {
-        let outcome = apply_op(self.alloc, &self.op, item);
+        let outcome = self.op.apply(self.alloc, item);
         if let Err(ItemFault::Memory) = outcome {
             return outcome;
         }

@@ -52,17 +52,14 @@ impl Counts {
         }
     }
 
-    /// Counts one more of the value. An Err leaves the counts as they were.
+    /// Counts one more of the value, which is searched for once. An Err leaves the counts as they were.
     pub(crate) fn add(&mut self, value: &[u8]) -> Result<(), NoMemory>
         ensures ok { OnOk result (self.new ≡ counted self.old value.now) }
         ensures err { OnErr result (self.new ≡ self.old) }
     {
-        if let Some(count) = self.counts.get_mut(value) {
-            *count = count.saturating_add(1);
-            return Ok(());
-        }
         let key = Vec::from_slice(self.alloc, value)?;
-        self.counts.insert(key, 1)?;
+        let count = self.counts.entry(key)?.or_insert(0);
+        *count = count.saturating_add(1);
         Ok(())
     }
 

@@ -1,5 +1,5 @@
 ghost use Rattle.std.specs.Prelude.{◌≡◌, ◌≢◌, ◌≤◌, ◌∷◌, IfSome, IfNone, length, slice_index};
-ghost use Rattle.qtc_ops.specs.Wildcards.{fits as fits_byte, CannotFit, some_suffix, TakesOne, wildcard};
+ghost use Rattle.qtc_ops.specs.Wildcards.{fits as fits_byte, CannotFit, some_suffix, star, TakesOne, wildcard};
 
 use memchr::memchr;
 
@@ -12,8 +12,8 @@ fn fits(symbol: u8, byte: u8) -> bool
 
 /// What follows the `*` at the front of the symbols.
 fn after_star(symbols: &[u8]) -> Option<&[u8]>
-    ensures star { IfSome result (λ rest. symbols.now ≡ 42 ∷ rest.now) }
-    ensures other { IfNone result (slice_index symbols.now 0 ≢ 42) }
+    ensures any_run { IfSome result (λ rest. symbols.now ≡ star ∷ rest.now) }
+    ensures other { IfNone result (slice_index symbols.now 0 ≢ star) }
 {
     match symbols {
         [b'*', rest @ ..] => Some(rest),

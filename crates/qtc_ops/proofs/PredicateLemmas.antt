@@ -1,11 +1,12 @@
 -- The tests of predicates against what they keep.
-use Rattle.std.proofs.Common.{◌≡◌, ℕ, ◌≤◌, ◌<◌, Bool, true, nat_eq, List, length, take, drop, get_or, get_or-drop, Option, Some, None, is_some, Decides, refl, sym, ap, ◌∙◌, arith}
+use Rattle.std.proofs.Common.{◌≡◌, ℕ, ◌+◌, ◌≤◌, ◌<◌, Bool, true, false, nat_eq, leb, List, length, take, drop, get_or, get_or-drop, Option, Some, None, is_some, Decides, refl, sym, ap, ◌∙◌, ⊎_elim, arith}
+use Rattle.std.proofs.lemmas.List.{get_or-take}
 use Rattle.std.specs.List.{starts_with}
 use Rattle.std.specs.Cmp.Lexicographic.{bytes_decides}
 use Rattle.std.proofs.lemmas.List.Prefix.{at_from_reads}
 use Rattle.std.proofs.lemmas.Bool.Decides.{Decides-ltb, Decides-at, same_from_decides}
 use Rattle.std.proofs.lemmas.Grind.{common_steps}
-use Rattle.std.proofs.lemmas.Bool.{false≢true}
+use Rattle.std.proofs.lemmas.Bool.{false≢true, cases_Bool, leb-true, leb-false}
 use Rattle.memchr.specs.Find.{OccursAt, FindsNeedle}
 use Rattle.qtc_ops.specs.Wildcards.{some_suffix}
 use Rattle.qtc_ops.specs.declared.predicates.Pred.{Pred}
@@ -50,6 +51,40 @@ found-decides item literal None f = (λ e. absurd (false≢true e), λ o. let fi
 
 pub found-test : (item literal : List ℕ) (r : Option ℕ) → FindsNeedle item literal 0 r → is_some r ≡ keeps (Contains literal) item
 found-test item literal r f = same_from_decides _ _ (found-decides item literal r f) (contains-decides item literal)
+
+-- ---- an item that is searched as the front of other bytes
+
+module _ (bytes item literal : List ℕ) (front : take (length item) bytes ≡ item) (within : length item ≤ length bytes) where
+  read-front : (k : ℕ) → k < length item → get_or item k 0 ≡ get_or bytes k 0
+  read-front k lt = ap (λ s. get_or s k 0) (sym front) ∙ get_or-take (length item) bytes k 0 lt
+
+  occurs-longer : (place : ℕ) → OccursAt item literal place → OccursAt bytes literal place
+  occurs-longer place o =
+      let fits = o.fits in
+      record { fits = omega arith; reads = λ j lt. sym (read-front (place + j) (omega arith)) ∙ o.reads j lt }
+
+  occurs-shorter : (place : ℕ) → place + length literal ≤ length item → OccursAt bytes literal place → OccursAt item literal place
+  occurs-shorter place fits o = record { fits = fits; reads = λ j lt. read-front (place + j) (omega arith) ∙ o.reads j lt }
+
+  found-within : (place : ℕ) → place + length literal ≤ length item → FindsNeedle bytes literal 0 (Some place) → FindsNeedle item literal 0 (Some place)
+  found-within place fits f =
+      (record { low = f.0.low; high = omega arith; before = λ k low lt o. f.0.before k low lt (occurs-longer k o) }, occurs-shorter place fits f.1)
+
+  found-past : (place : ℕ) → length item < place + length literal → FindsNeedle bytes literal 0 (Some place) → FindsNeedle item literal 0 None
+  found-past place past f k low high o = let fits = o.fits in f.0.before k low (omega arith) (occurs-longer k o)
+
+  found-nowhere : FindsNeedle bytes literal 0 None → FindsNeedle item literal 0 None
+  found-nowhere f k low high o = f k low (omega arith) (occurs-longer k o)
+
+  pub front-found : (place : ℕ) → FindsNeedle bytes literal 0 (Some place) → leb (place + length literal) (length item) ≡ keeps (Contains literal) item
+  front-found place f =
+      ⊎_elim
+      (λ fits. fits ∙ found-test item literal (Some place) (found-within place (leb-true _ _ fits) f))
+      (λ past. past ∙ found-test item literal None (found-past place (leb-false _ _ past) f))
+      (cases_Bool (leb (place + length literal) (length item)))
+
+  pub front-nowhere : FindsNeedle bytes literal 0 None → false ≡ keeps (Contains literal) item
+  front-nowhere f = found-test item literal None (found-nowhere f)
 
 pub exactly-from_test : (pred : Pred) (item : List ℕ) (r : Bool) → r ≡ keeps pred item → (r ≡ true → Keeps pred item) × (Keeps pred item → r ≡ true)
 exactly-from_test pred item r e = Decides-at r (keeps pred item) e (keeps-decides pred item)

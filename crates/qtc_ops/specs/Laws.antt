@@ -78,4 +78,5 @@ TalliesCount = (values : List (List ℕ)) →
     (counts : List (List ℕ × ℕ)) × (folded Tally values ≡ Counts counts) × AreCounts values counts
 
 abbrev pub SortedValuesAscend : Type 0
-SortedValuesAscend = (values : List (List ℕ)) → IsPermutation values (sorted values) × IsSorted bytes_cmp (sorted values)
+SortedValuesAscend = (values : List (List ℕ)) →
+    IsPermutation values (sorted values) × IsSorted bytes_cmp (sorted values)

@@ -7,5 +7,5 @@ use Rattle.qtc_ops.specs.declared.prepared.Prepared.TheVariants as ready
 
 abbrev pub op_of : Prepared → ItemOp
 op_of (ready.Map op) = Map op
-op_of (ready.Search not finder) = Keep not (Contains finder)
+op_of (ready.Search not literal) = Keep not (Contains literal)
 op_of (ready.Keep not pred) = Keep not pred

@@ -19,7 +19,11 @@ joined_by separator [] = []
 joined_by separator (value ∷ []) = value
 joined_by separator (value ∷ next ∷ values) = value ++ (separator ++ joined_by separator (next ∷ values))
 
+-- below none of the values
+abbrev pub IsBelowNone : List (List ℕ) → List ℕ → Type 0
+IsBelowNone values greatest = All (λ value. is_lt (bytes_cmp greatest value) ≡ false) values
+
 -- one of the values, below none of them; nothing where there is no value
 abbrev pub IsGreatestOf : List (List ℕ) → Option (List ℕ) → Type 0
 IsGreatestOf values best =
-    MatchOption best (values ≡ []) (λ greatest. Contains values greatest × All (λ value. is_lt (bytes_cmp greatest value) ≡ false) values)
+    MatchOption best (values ≡ []) (λ greatest. Contains values greatest × IsBelowNone values greatest)

@@ -11,6 +11,7 @@ mod item_faults;
 mod item_fns;
 mod laws;
 mod list_ops;
+mod literals;
 mod maps;
 mod numbers;
 mod op_fns;

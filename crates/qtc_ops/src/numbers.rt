@@ -15,11 +15,11 @@ pub fn read_number(item: &[u8]) -> Option<u128>
     read_decimal(item, NUMBER_DIGITS)
 }
 
-/// The decimal text of a number.
+/// The decimal text of a number, in one piece of memory where it has at most `NUMBER_DIGITS` digits.
 pub fn decimal_bytes(alloc: Global, value: u128) -> Result<Bytes, NoMemory>
     ensures { IfOk result (λ text. text ≡ decimal_text value) }
 {
-    let mut text = Bytes::new(alloc);
+    let mut text = Bytes::with_capacity(alloc, NUMBER_DIGITS as usize)?;
     decimal(value, &mut text)?;
     Ok(text)
 }

@@ -1,12 +1,11 @@
 ghost use Rattle.std.specs.Prelude.{◌≡◌};
 ghost use Rattle.qtc_ops.specs.ItemValue.{Answers};
 ghost use Rattle.qtc_ops.specs.Operations.{kept_where, value_of};
-ghost use Rattle.qtc_ops.specs.Predicates.{keeps};
 ghost use Rattle.qtc_ops.specs.Prepared.{op_of};
 
+use crate::literals::LiteralSearch;
 use crate::maps::apply_map;
 use crate::{ItemFault, ItemOp, MapOp, Pred};
-use memchr::memmem::{Finder, FinderBuilder};
 use qtc_base::Bytes;
 use std::alloc::Global;
 
@@ -16,16 +15,9 @@ pub enum Prepared {
     /// As `ItemOp::Map`.
     Map(MapOp),
     /// As `ItemOp::Keep` of `Pred::Contains`.
-    Search { not: bool, finder: Finder<'static> },
+    Search { not: bool, search: LiteralSearch },
     /// As `ItemOp::Keep` of another predicate.
     Keep { not: bool, pred: Pred },
-}
-
-/// Whether the literal of a search stands in the item.
-fn has_literal(finder: &Finder<'static>, item: &[u8]) -> bool
-    ensures { result ≡ keeps (Pred.Contains finder.now) item.now }
-{
-    finder.find(item).is_some()
 }
 
 /// The item as its own value where it is kept.
@@ -51,7 +43,7 @@ impl Prepared {
                 pred: Pred::Contains(literal),
             } => Prepared::Search {
                 not,
-                finder: FinderBuilder::new().build_forward_owned(literal.into_vec()),
+                search: LiteralSearch::new(literal),
             },
             ItemOp::Keep { not, pred } => Prepared::Keep { not, pred },
         }
@@ -63,9 +55,7 @@ impl Prepared {
     {
         match self {
             Prepared::Map(map) => apply_map(alloc, *map, item),
-            Prepared::Search { not, finder } => {
-                kept_item(alloc, has_literal(finder, item) != *not, item)
-            }
+            Prepared::Search { not, search } => kept_item(alloc, search.is_in(item) != *not, item),
             Prepared::Keep { not, pred } => kept_item(alloc, pred.keeps(item) != *not, item),
         }
     }

@@ -4,6 +4,24 @@ use std::alloc::Global;
 use std::process::Abort;
 use std::test::Fail;
 
+/// The first use of the crate's page.
+#[test]
+fn guests_are_joined(rt: HostRuntime) -> Result<(), Fail> {
+    let alloc = rt.alloc();
+    let pred = Pred::Contains(Bytes::from_slice(alloc, b"#")?);
+    let mut guests = OpFn::new(alloc, ItemOp::Keep { not: true, pred });
+    let join = FoldOp::Join(Bytes::from_slice(alloc, b", ")?);
+    let mut names = join.start(alloc)?;
+    for (index, line) in [(0, b"Ada".as_slice()), (1, b"# no guest"), (2, b"Grace")] {
+        if let Some(name) = guests.apply(index, line)? {
+            join.step(&mut names, name.as_slice())?;
+        }
+    }
+    assert_eq!(rt; join.text(alloc, &names)?.as_slice(), b"Ada, Grace".as_slice());
+    assert_eq!(rt; guests.calls(), [0, 1, 2].as_slice());
+    Ok(())
+}
+
 /// The value of an item by an operation, as text; None where it is dropped.
 fn value_of(alloc: Global, op: ItemOp, item: &[u8]) -> Result<Option<Bytes>, ItemFault> {
     apply_once(&mut OpFn::new(alloc, op), item)
@@ -148,6 +166,7 @@ fn literals_and_lengths_keep_items(rt: HostRuntime) -> Result<(), Fail> {
         (b"ac", b"abc", false),
         (b"abcd", b"abc", false),
         (b"a", b"", false),
+        (b"", b"", true),
     ] {
         let pred = Pred::Contains(Bytes::from_slice(rt.alloc(), literal)?);
         assert_keeps(&rt, pred, item, want)?;

@@ -1,5 +1,5 @@
 -- What the definitions that compute come to, in words that compute nothing. (Own.)
-use Rattle.std.specs.Prelude.{◌≡◌, ◌+◌, ◌≤◌, ◌<◌, ◌↔◌, ℕ, Bool, List, [], ◌∷◌, ◌++◌, Contains, Option, IsTrue, length, sum_by, slice_index_or, slice_range}
+use Rattle.std.specs.Prelude.{◌≡◌, ◌≤◌, ◌<◌, ◌↔◌, ℕ, Bool, List, [], ◌∷◌, ◌++◌, Contains, Option, IsTrue, length, sum_by, slice_index_or, slice_range}
 use Rattle.std.specs.List.Sorted.{IsPermutation, IsSorted}
 use Rattle.qtc_base.specs.Decimal.{IsNumber, number_of}
 use Rattle.qtc_ops.specs.declared.accumulators.FoldAcc.TheVariants.{Number, Text, Counts}

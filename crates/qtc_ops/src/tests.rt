@@ -17,7 +17,10 @@ fn guests_are_joined(rt: HostRuntime) -> Result<(), Fail> {
             join.step(&mut names, name.as_slice())?;
         }
     }
-    assert_eq!(rt; join.text(alloc, &names)?.as_slice(), b"Ada, Grace".as_slice());
+    assert_eq!(rt;
+        join.text(alloc, &names)?.as_slice(),
+        b"Ada, Grace".as_slice()
+    );
     assert_eq!(rt; guests.calls(), [0, 1, 2].as_slice());
     Ok(())
 }

@@ -1,4 +1,4 @@
-use Rattle.std.proofs.Common.{◌≡◌, ◌+◌, ◌-◌, ◌≤◌, ◌∙◌, leb, length, take, ap, arith, rules}
+use Rattle.std.proofs.Common.{◌≡◌, ◌+◌, ◌-◌, ◌≤◌, ◌∙◌, leb, length, take, ap, arith}
 use Rattle.std.proofs.lemmas.Grind.{common_steps}
 use Rattle.qtc_ops.proofs.PredicateLemmas.{found-test, front-found, front-nowhere}
 use Rattle.qtc_ops.proofs.literals.LiteralSearch.is_in.Goals as goal

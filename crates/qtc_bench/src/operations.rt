@@ -136,10 +136,11 @@ fn print_maps<R: Clock + Print + Wait + Threads + Sync>(
     print_table(rt, alloc, "maps", u64::from(LINES), &rows)
 }
 
-/// The predicates over lines of three numbers.
+/// The predicates over lines of some numbers.
 fn print_predicates<R: Clock + Print + Wait + Threads + Sync>(
     rt: &R,
     alloc: Global,
+    title: &str,
     items: &Items,
 ) -> io::Result<()> {
     let pass = |step| Pass { alloc, items, step };
@@ -156,7 +157,7 @@ fn print_predicates<R: Clock + Print + Wait + Threads + Sync>(
         Row::new("wildcard *7*7*", keep(false, wildcard)),
         Row::new("longer 9", keep(false, Pred::Longer(9))),
     ];
-    print_table(rt, alloc, "predicates", u64::from(LINES), &rows)
+    print_table(rt, alloc, title, u64::from(LINES), &rows)
 }
 
 /// The folds over lines of one number.
@@ -191,6 +192,7 @@ pub fn print_operations<R: Clock + Print + Wait + Threads + Sync>(
     let single = lines(alloc, 1)?;
     let triple = lines(alloc, 3)?;
     print_maps(rt, alloc, &single, &triple)?;
-    print_predicates(rt, alloc, &triple)?;
+    print_predicates(rt, alloc, "predicates, one number", &single)?;
+    print_predicates(rt, alloc, "predicates, three numbers", &triple)?;
     print_folds(rt, alloc, &single)
 }

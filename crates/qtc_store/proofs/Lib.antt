@@ -9,3 +9,6 @@ pub mod Ranges
 pub mod Below
 pub mod Arrival
 pub mod Offers
+pub mod Refused
+pub mod Ascending
+pub mod Taken

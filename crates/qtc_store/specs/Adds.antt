@@ -1,9 +1,10 @@
 -- Additions that are offered one after the other, of which some are refused. (Own.)
-use Rattle.std.specs.Prelude.{ℕ, ◌≡◌, ◌≤◌, Bool, true, false, ◌&&◌, nat_lt, if◌then◌else◌, is_none, unwrap_or, IsSome, List, [], ◌∷◌, ◌++◌, length, fold}
+use Rattle.std.specs.Prelude.{ℕ, ◌≡◌, ◌≤◌, Bool, true, false, ◌&&◌, nat_lt, if◌then◌else◌, is_none, unwrap_or, IsSome, List, [], ◌∷◌, ◌++◌, length, fold, slice_get, All, Contains}
+use Rattle.std.specs.List.{flat_map}
 use Rattle.std.specs.FinMap.{get}
 use Rattle.qtc_store.specs.declared.batch.Batch.{Batch}
 use Rattle.qtc_store.specs.declared.batch.Addition.{Addition}
-use Rattle.qtc_store.specs.Batches.{greatest_end, in_order}
+use Rattle.qtc_store.specs.Batches.{end_of, values_of, greatest_end, in_order}
 use Rattle.qtc_store.specs.Results.{results}
 use Rattle.qtc_store.specs.Stored.{Stored, refusal_of, value_at, with_batch}
 
@@ -30,9 +31,20 @@ accepted_of additions = fold accepted_with [] additions
 abbrev pub store_of : {V : Type 0} → Bool → List (Batch V) → Stored V
 store_of filter accepted = record { filter = filter; batches = in_order accepted }
 
--- the results are those of the batches in the order in which they came
+-- in plain mode the results are those of the batches in the order in which they came
 abbrev pub HasResultsOf : {V : Type 0} → Stored V → List (Batch V) → Type 0
 HasResultsOf store accepted = (index : ℕ) → value_at store index ≡ get (results accepted) index
+
+-- from a place on these are taken: one that begins there, then one that begins at its end, and so on while there is one
+abbrev pub AreTaken : {V : Type 0} → (accepted : List (Batch V)) → ℕ → List (Batch V) → Type 0
+AreTaken accepted place [] = All (λ batch. ¬ (batch.begin ≡ place)) accepted
+AreTaken accepted place (batch ∷ batches) = Contains accepted batch × (batch.begin ≡ place) × AreTaken accepted (end_of batch) batches
+
+-- in filter mode the results are the values of those that are taken from 0 on, whatever the order in which they came
+pub record ShowsTaken {V : Type 0} (store : Stored V) (accepted : List (Batch V)) : Type 0 where
+  pub shown : List (Batch V)
+  pub taken : AreTaken accepted 0 shown
+  pub values : (position : ℕ) → value_at store position ≡ slice_get (flat_map values_of shown) position
 
 -- the store after one addition, refused or not
 abbrev pub offered : {V : Type 0} → Stored V → Addition V → Stored V

@@ -3,8 +3,15 @@ use Rattle.std.specs.Prelude.{ℕ, ◌+◌, ◌≤◌, ◌<◌, ◌≡◌, Bool,
 use Rattle.std.specs.List.{list_any, find, range_with_len}
 use Rattle.qtc_store.specs.declared.batch.Batch.{Batch}
 
+-- the end that no accepted batch may pass
+abbrev pub most_end : ℕ
+most_end = 8388608
+
 abbrev pub end_of : {V : Type 0} → Batch V → ℕ
 end_of batch = batch.begin + batch.total
+
+abbrev pub begin_of : {V : Type 0} → Batch V → ℕ
+begin_of batch = batch.begin
 
 abbrev pub values_of : {V : Type 0} → Batch V → List V
 values_of batch = batch.values

@@ -3,5 +3,6 @@ pub mod Batches
 pub mod Results
 pub mod Visible
 pub mod Stored
+pub mod Adding
 pub mod Adds
 pub mod Laws

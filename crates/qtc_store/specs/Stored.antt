@@ -6,8 +6,7 @@ use Rattle.qtc_base.specs.declared.ranges.Range.{Range}
 use Rattle.qtc_store.specs.declared.batch.Batch.{Batch}
 use Rattle.qtc_store.specs.declared.batch.AddFault.{AddFault}
 use Rattle.qtc_store.specs.declared.batch.AddFault.TheVariants.{Taken, PastEnd}
-use Rattle.qtc_store.specs.declared.batch.TheConstants.{MOST_END}
-use Rattle.qtc_store.specs.Batches.{AreApart, IsWhole, placed, greatest_end, least_covered}
+use Rattle.qtc_store.specs.Batches.{AreApart, IsWhole, most_end, placed, greatest_end, least_covered}
 use Rattle.qtc_store.specs.Results.{results, result_count, result_ranges}
 use Rattle.qtc_store.specs.Visible.{visible, visible_ranges}
 
@@ -45,7 +44,7 @@ pub record AreRangesOf {V : Type 0} (store : Stored V) (ranges : List (ℕ × �
 -- why a batch is refused, want of memory apart: the least index of it that is covered, or its end
 abbrev pub refusal : Option ℕ → ℕ → Option AddFault
 refusal (Some index) end = Some (Taken index)
-refusal None end = if nat_lt MOST_END end then Some PastEnd else None
+refusal None end = if nat_lt most_end end then Some PastEnd else None
 
 abbrev pub refusal_of : {V : Type 0} → List (Batch V) → (begin total : ℕ) → Option AddFault
 refusal_of batches begin total = refusal (least_covered batches begin total) (begin + total)
@@ -56,7 +55,7 @@ IsTaken store begin total index = least_covered store.batches begin total ≡ So
 
 -- none of them is covered, and the batch ends past the limit
 abbrev pub PassesEnd : {V : Type 0} → Stored V → (begin total : ℕ) → Type 0
-PassesEnd store begin total = (least_covered store.batches begin total ≡ None) × (MOST_END < begin + total)
+PassesEnd store begin total = (least_covered store.batches begin total ≡ None) × (most_end < begin + total)
 
 -- nothing refuses the batch
 abbrev pub NothingRefuses : {V : Type 0} → Stored V → (begin total : ℕ) → Type 0
@@ -91,4 +90,4 @@ with_batch store batch = if batch.total == 0 then store else record store { batc
 pub record IsStore {V : Type 0} (filter : Bool) (batches : List (Batch V)) : Type 0 where
   pub apart : AreApart 0 batches
   pub whole : All (IsWhole filter) batches
-  pub bounded : greatest_end batches ≤ MOST_END
+  pub bounded : greatest_end batches ≤ most_end

@@ -1,8 +1,22 @@
-//! A law of the definitions, as the contract of a function with an empty body.
+//! Laws of the definitions, as contracts of functions with empty bodies.
 
-ghost use Rattle.qtc_store.specs.Laws.{VisibleIsBelowGap};
+ghost use Rattle.std.specs.Prelude.{◌≡◌};
+ghost use Rattle.qtc_store.specs.Batches.{most_end};
+ghost use Rattle.qtc_store.specs.Laws.{InOrderAscends, VisibleIsBelowGap};
+
+use crate::batch::MOST_END;
+
+/// The limit that callers name is the limit of the definitions.
+pub fn most_end_is_the_limit()
+    ensures { MOST_END ≡ most_end }
+{}
 
 /// A filter store shows the values that were kept below the first index that no batch covers.
 pub fn visible_is_below_gap<V>()
     ensures { VisibleIsBelowGap V }
+{}
+
+/// Batches in order are the same batches, each as often as before, ascending by their begins.
+pub fn batches_in_order_ascend<V>()
+    ensures { InOrderAscends V }
 {}

@@ -10,5 +10,5 @@ mod tests;
 mod walks;
 
 pub use batch::{AddFault, Added, Addition, Batch, MOST_END};
-pub use laws::visible_is_below_gap;
+pub use laws::{batches_in_order_ascend, most_end_is_the_limit, visible_is_below_gap};
 pub use store::ResultStore;

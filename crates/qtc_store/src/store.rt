@@ -1,5 +1,5 @@
-ghost use Rattle.std.specs.Prelude.{◌≡◌, ◌+◌, ◌<◌, ◌≤◌, ◌↔◌, true, false, [], ◌∷◌, OnOk, OnErr, IfOk, IfErr, IsSome, IsTrue, None, Some, is_some, ℕ, Err, length, map, option_copied, unwrap_or, All};
-ghost use Rattle.qtc_store.specs.Batches.{greatest_end, least_covered};
+ghost use Rattle.std.specs.Prelude.{◌≡◌, ◌+◌, ◌<◌, ◌≤◌, true, false, [], ◌∷◌, OnOk, OnErr, IfOk, IfErr, IsSome, IsTrue, None, Some, is_some, ℕ, Err, length, map, option_copied, unwrap_or, All};
+ghost use Rattle.qtc_store.specs.Batches.{greatest_end, most_end};
 
 use crate::batch::MOST_END;
 use crate::walks::{
@@ -78,7 +78,7 @@ impl<V> ResultStore<V> {
     pub fn count(&self) -> u32
         ensures count { result ≡ count_of self.now }
         ensures first_gap { IsFirstGap self.now result }
-        ensures within { result ≤ MOST_END }
+        ensures within { result ≤ most_end }
     {
         if self.filter {
             visible_count(&self.batches)
@@ -90,7 +90,7 @@ impl<V> ResultStore<V> {
     /// Where a result without an index of its own goes: the greatest end of a batch, or 0.
     pub fn insert_index(&self) -> u32
         ensures index { result ≡ greatest_end self.now.batches }
-        ensures within { result ≤ MOST_END }
+        ensures within { result ≤ most_end }
     {
         greatest_end_of(&self.batches)
     }
@@ -136,14 +136,14 @@ impl<V> ResultStore<V> {
 }
 
 impl<V: Drop> ResultStore<V> {
-    ghost use Rattle.qtc_store.specs.Stored.{batch_with, count_of, goes_at, with_batch, NothingRefuses, IsTaken, KeepsResults, PassesEnd};
+    ghost use Rattle.qtc_store.specs.Adding.{AddsBatch};
+    ghost use Rattle.qtc_store.specs.Batches.{IsWhole};
+    ghost use Rattle.qtc_store.specs.Stored.{batch_with, goes_at, with_batch, KeepsResults, NothingRefuses};
 
     /// Stores a batch that is not refused. An Err is want of memory.
     fn insert(&mut self, batch: Batch<V>) -> Result<(), AddFault>
-        requires free { least_covered self.old.batches batch.begin batch.total ≡ None }
-        requires bounded { batch.begin + batch.total ≤ MOST_END }
-        requires few { length batch.values ≤ batch.total }
-        requires whole { self.old.filter ≡ false → length batch.values ≡ batch.total }
+        requires free { NothingRefuses self.old batch.begin batch.total }
+        requires whole { IsWhole self.old.filter batch }
         ensures ok { OnOk result (self.new ≡ with_batch self.old batch) }
         ensures kept { OnOk result (KeepsResults self.old self.new) }
         ensures memory { IfErr result (λ fault. fault ≡ AddFault.Memory) }
@@ -158,17 +158,9 @@ impl<V: Drop> ResultStore<V> {
 
     /// Stores a batch that is not refused, and tells what it did to the count. An Err is want of memory.
     fn accept(&mut self, batch: Batch<V>) -> Result<Added, AddFault>
-        requires free { least_covered self.old.batches batch.begin batch.total ≡ None }
-        requires bounded { batch.begin + batch.total ≤ MOST_END }
-        requires few { length batch.values ≤ batch.total }
-        requires whole { self.old.filter ≡ false → length batch.values ≡ batch.total }
-        ensures ok { OnOk result (self.new ≡ with_batch self.old batch) }
-        ensures kept { OnOk result (KeepsResults self.old self.new) }
-        ensures begin { IfOk result (λ added. added.begin ≡ batch.begin) }
-        ensures old_count { IfOk result (λ added. added.old_count ≡ count_of self.old) }
-        ensures new_count { IfOk result (λ added. added.new_count ≡ count_of self.new) }
-        ensures memory { IfErr result (λ fault. fault ≡ AddFault.Memory) }
-        ensures err { OnErr result (self.new ≡ self.old) }
+        requires free { NothingRefuses self.old batch.begin batch.total }
+        requires whole { IsWhole self.old.filter batch }
+        ensures { AddsBatch self.old batch result self.new }
     {
         let begin = batch.begin;
         let old_count = self.count();
@@ -187,15 +179,7 @@ impl<V: Drop> ResultStore<V> {
     pub fn add_batch(&mut self, begin: u32, values: List<V>, total: u32) -> Result<Added, AddFault>
         requires few { length values ≤ total }
         requires whole { self.old.filter ≡ false → length values ≡ total }
-        ensures taken { (index : ℕ) → (result ≡ Err (AddFault.Taken index)) ↔ IsTaken self.old begin total index }
-        ensures past_end { (result ≡ Err AddFault.PastEnd) ↔ PassesEnd self.old begin total }
-        ensures accepted { OnOk result (NothingRefuses self.old begin total) }
-        ensures ok { OnOk result (self.new ≡ with_batch self.old (batch_with begin values total)) }
-        ensures kept { OnOk result (KeepsResults self.old self.new) }
-        ensures begin { IfOk result (λ added. added.begin ≡ begin) }
-        ensures old_count { IfOk result (λ added. added.old_count ≡ count_of self.old) }
-        ensures new_count { IfOk result (λ added. added.new_count ≡ count_of self.new) }
-        ensures err { OnErr result (self.new ≡ self.old) }
+        ensures { AddsBatch self.old (batch_with begin values total) result self.new }
     {
         if let Some(fault) = self.refusal(begin, total) {
             return Err(fault);
@@ -211,15 +195,7 @@ impl<V: Drop> ResultStore<V> {
     /// of one.
     pub fn add(&mut self, index: Option<u32>, value: V) -> Result<Added, AddFault>
         requires { self.old.filter ≡ true → IsSome index }
-        ensures taken { (i : ℕ) → (result ≡ Err (AddFault.Taken i)) ↔ IsTaken self.old (goes_at self.old index) 1 i }
-        ensures past_end { (result ≡ Err AddFault.PastEnd) ↔ PassesEnd self.old (goes_at self.old index) 1 }
-        ensures accepted { OnOk result (NothingRefuses self.old (goes_at self.old index) 1) }
-        ensures ok { OnOk result (self.new ≡ with_batch self.old (batch_with (goes_at self.old index) (value ∷ []) 1)) }
-        ensures kept { OnOk result (KeepsResults self.old self.new) }
-        ensures begin { IfOk result (λ added. added.begin ≡ goes_at self.old index) }
-        ensures old_count { IfOk result (λ added. added.old_count ≡ count_of self.old) }
-        ensures new_count { IfOk result (λ added. added.new_count ≡ count_of self.new) }
-        ensures err { OnErr result (self.new ≡ self.old) }
+        ensures { AddsBatch self.old (batch_with (goes_at self.old index) (value ∷ []) 1) result self.new }
     {
         let begin = index.unwrap_or(self.insert_index());
         if let Some(fault) = self.refusal(begin, 1) {
@@ -235,7 +211,7 @@ impl<V: Drop> ResultStore<V> {
 }
 
 impl<V: Drop> ResultStore<V> {
-    ghost use Rattle.qtc_store.specs.Adds.{accepted_of, offered, store_of, Fits, HasResultsOf};
+    ghost use Rattle.qtc_store.specs.Adds.{accepted_of, offered, store_of, Fits, HasResultsOf, ShowsTaken};
 
     /// The store after these additions, offered one after the other, the refused ones dropped. So every
     /// query of it answers from the accepted ones. Err is want of memory.
@@ -247,8 +223,9 @@ impl<V: Drop> ResultStore<V> {
         requires { All (Fits filter) additions.items }
         ensures accepted { IfOk result (λ store. store ≡ store_of filter (accepted_of additions.items)) }
 
-        // In plain mode the order in which they came makes no difference.
+        // In words of the accepted ones as they came: in plain mode their map, in filter mode the taken ones.
         ensures results { filter ≡ false → IfOk result (λ store. HasResultsOf store (accepted_of additions.items)) }
+        ensures shown { filter ≡ true → IfOk result (λ store. ShowsTaken store (accepted_of additions.items)) }
     {
         let mut store = ResultStore::new(alloc, filter);
         for addition in additions {

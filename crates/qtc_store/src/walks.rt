@@ -5,20 +5,19 @@ ghost use Rattle.std.specs.List.{flat_map};
 ghost use Rattle.std.specs.Ordering.{nat_cmp};
 ghost use Rattle.std.specs.FinMap.{get};
 ghost use Rattle.qtc_store.specs.declared.batch.Batch.{Batch as Batch'};
-ghost use Rattle.qtc_store.specs.Batches.{AreApart, greatest_end, is_covered, least_covered, placed, values_of};
+ghost use Rattle.qtc_store.specs.Batches.{AreApart, greatest_end, is_covered, least_covered, most_end, placed, values_of};
 ghost use Rattle.qtc_store.specs.Results.{results, result_ranges};
 ghost use Rattle.qtc_store.specs.Stored.{bounds_of};
 ghost use Rattle.qtc_store.specs.Visible.{meeting, meeting_end, positions, visible, visible_ranges};
 
 use crate::Batch;
-use crate::batch::MOST_END;
 use qtc_base::{List, NoMemory, Range};
 use std::alloc::Global;
 
 /// The least index from `begin` to `begin + total` that one of the batches covers.
 pub(crate) fn first_covered<V>(batches: &[Batch<V>], begin: u32, total: u32) -> Option<u32>
     requires apart { AreApart 0 batches.now }
-    requires bounded { greatest_end batches.now ≤ MOST_END }
+    requires bounded { greatest_end batches.now ≤ most_end }
     ensures { result ≡ least_covered batches.now begin total }
 {
     let end = u64::from(begin) + u64::from(total);
@@ -37,7 +36,7 @@ pub(crate) fn first_covered<V>(batches: &[Batch<V>], begin: u32, total: u32) -> 
 
 /// How many batches at the front meet from index 0 on.
 pub(crate) fn meeting_len<V>(batches: &[Batch<V>]) -> usize
-    requires bounded { greatest_end batches.now ≤ MOST_END }
+    requires bounded { greatest_end batches.now ≤ most_end }
     ensures within { result ≤ length batches.now }
     ensures front { take result batches.now ≡ meeting 0 batches.now }
 {
@@ -97,7 +96,7 @@ pub(crate) fn place_of<V>(batches: &[Batch<V>], begin: u32) -> usize
 
 /// Where the batches that meet from index 0 on end.
 pub(crate) fn meeting_end_of<V>(batches: &[Batch<V>]) -> u32
-    requires bounded { greatest_end batches.now ≤ MOST_END }
+    requires bounded { greatest_end batches.now ≤ most_end }
     ensures { result ≡ meeting_end 0 batches.now }
 {
     let mut place = 0;
@@ -112,10 +111,10 @@ pub(crate) fn meeting_end_of<V>(batches: &[Batch<V>]) -> u32
 
 /// How many values the batches that meet from index 0 on have.
 pub(crate) fn visible_count<V>(batches: &[Batch<V>]) -> u32
-    requires bounded { greatest_end batches.now ≤ MOST_END }
+    requires bounded { greatest_end batches.now ≤ most_end }
     requires few { All (λ batch. length batch.values ≤ batch.total) batches.now }
     ensures count { result ≡ length (visible batches.now) }
-    ensures within { result ≤ MOST_END }
+    ensures within { result ≤ most_end }
 {
     let mut place = 0;
     let mut count = 0;
@@ -134,7 +133,7 @@ pub(crate) fn visible_values<V: Drop>(
     alloc: Global,
     batches: Vec<Batch<V>>,
 ) -> Result<Vec<V>, NoMemory>
-    requires { greatest_end batches.items ≤ MOST_END }
+    requires { greatest_end batches.items ≤ most_end }
     ensures { IfOk result (λ values. values.items ≡ visible batches.items) }
 {
     let mut all = Vec::new(alloc);
@@ -156,7 +155,7 @@ pub(crate) fn visible_values<V: Drop>(
 
 /// Where the last batch ends, or 0.
 pub(crate) fn greatest_end_of<V>(batches: &[Batch<V>]) -> u32
-    requires bounded { greatest_end batches.now ≤ MOST_END }
+    requires bounded { greatest_end batches.now ≤ most_end }
     ensures { result ≡ greatest_end batches.now }
 {
     let mut end: u32 = 0;
@@ -179,7 +178,7 @@ fn append_range(begin: u32, end: u32, ranges: &mut List<Range>) -> Result<(), No
 
 /// Appends the positions of `count` values, where there are any. Err is want of memory.
 fn append_positions(position: u32, count: u32, ranges: &mut List<Range>) -> Result<(), NoMemory>
-    requires { position + count ≤ MOST_END }
+    requires { position + count ≤ most_end }
     ensures { OnOk result (map bounds_of ranges.new ≡ map bounds_of ranges.old ++ positions position count) }
 {
     if count == 0 {
@@ -193,7 +192,7 @@ pub(crate) fn ranges_of_batches<V>(
     alloc: Global,
     batches: &[Batch<V>],
 ) -> Result<List<Range>, NoMemory>
-    requires bounded { greatest_end batches.now ≤ MOST_END }
+    requires bounded { greatest_end batches.now ≤ most_end }
     ensures { IfOk result (λ ranges. map bounds_of ranges ≡ result_ranges batches.now) }
 {
     let mut ranges = List::new(alloc);
@@ -208,7 +207,7 @@ pub(crate) fn ranges_of_visible<V>(
     alloc: Global,
     batches: &[Batch<V>],
 ) -> Result<List<Range>, NoMemory>
-    requires bounded { greatest_end batches.now ≤ MOST_END }
+    requires bounded { greatest_end batches.now ≤ most_end }
     requires few { All (λ batch. length batch.values ≤ batch.total) batches.now }
     ensures { IfOk result (λ ranges. map bounds_of ranges ≡ visible_ranges batches.now) }
 {

@@ -53,7 +53,7 @@ hit_within b batches begin low high =
     let inside : covers begin b ≡ true = grind (arith, nat_tests) in
     rw inside refl
 
-first_of : ℕ → ℕ → Option ℕ
+abbrev pub first_of : ℕ → ℕ → Option ℕ
 first_of first end = if nat_lt first end then Some first else None
 
 first_of-none : (first end : ℕ) → end ≤ first → first_of first end ≡ None
@@ -64,7 +64,7 @@ first_of-some : (first end : ℕ) → first < end → first_of first end ≡ Som
 unfolding first_of
 first_of-some first end h = grind (arith, nat_tests)
 
-hit : {V : Type 0} (b : Batch V) (batches : List (Batch V)) (low begin total : ℕ) → AreApart low (b ∷ batches) → begin < end_of b → find (is_covered (b ∷ batches)) (range_with_len begin total) ≡ first_of (max b.begin begin) (begin + total)
+pub hit : {V : Type 0} (b : Batch V) (batches : List (Batch V)) (low begin total : ℕ) → AreApart low (b ∷ batches) → begin < end_of b → find (is_covered (b ∷ batches)) (range_with_len begin total) ≡ first_of (max b.begin begin) (begin + total)
 hit b batches low begin zero a h = sym (first_of-none (max b.begin begin) (begin + 0) (omega arith))
 hit b batches low begin (suc total) a h =
     elim (cases_lt begin b.begin) [
@@ -80,7 +80,7 @@ hit b batches low begin (suc total) a h =
           rw (inside, same) (sym (first_of-some begin (begin + suc total) (omega arith)))
     ]
 
-least_covered-nil : (V : Type 0) (begin total : ℕ) → least_covered {V = V} [] begin total ≡ None
+pub least_covered-nil : (V : Type 0) (begin total : ℕ) → least_covered {V = V} [] begin total ≡ None
 least_covered-nil V begin zero = refl
 least_covered-nil V begin (suc total) = least_covered-nil V (begin + 1) total
 

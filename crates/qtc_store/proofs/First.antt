@@ -19,7 +19,7 @@ shown-nil : (V : Type 0) (low : ℕ) → shown_from {V = V} low [] ≡ []
 unfolding shown_from
 shown-nil V low = refl
 
-shown_len : {V : Type 0} (low : ℕ) (batches : List (Batch V)) → All IsFull batches → low + length (shown_from low batches) ≡ meeting_end low batches
+pub shown_len : {V : Type 0} (low : ℕ) (batches : List (Batch V)) → All IsFull batches → low + length (shown_from low batches) ≡ meeting_end low batches
 shown_len {V = V} low [] full = omega (arith, ap length (shown-nil V low))
 shown_len {V = V} low (b ∷ batches) full =
     elim (cases_eq b.begin low) [
@@ -42,7 +42,7 @@ batch_at begin (v ∷ values) ys es i h =
     let at : begin + i - begin ≡ i = omega arith in
     slice_get-append_left (v ∷ values) ys i v h ∙ sym (found ∙ ap (λ n. Some (get_or (v ∷ values) n v)) at)
 
-shown_at : {V : Type 0} (low : ℕ) (batches : List (Batch V)) → All IsFull batches → (i : ℕ) → i < length (shown_from low batches) → slice_get (shown_from low batches) i ≡ find nat_cmp (low + i) (flat_map cells_of batches)
+pub shown_at : {V : Type 0} (low : ℕ) (batches : List (Batch V)) → All IsFull batches → (i : ℕ) → i < length (shown_from low batches) → slice_get (shown_from low batches) i ≡ find nat_cmp (low + i) (flat_map cells_of batches)
 shown_at {V = V} low [] full i h = absurd (omega (arith, ap length (shown-nil V low)))
 shown_at {V = V} low (b ∷ batches) full i h =
     elim (cases_eq b.begin low) [

@@ -5,10 +5,13 @@ pub mod Placed
 pub mod Gap
 pub mod Kept
 pub mod First
-pub mod Ranges
+pub mod RangeLemmas
 pub mod Below
 pub mod Arrival
 pub mod Offers
 pub mod Refused
 pub mod Ascending
 pub mod Taken
+pub mod PendingLemmas
+pub mod FrontLemmas
+pub mod StoreLemmas

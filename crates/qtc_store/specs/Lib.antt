@@ -6,3 +6,4 @@ pub mod Stored
 pub mod Adding
 pub mod Adds
 pub mod Laws
+pub mod Inside

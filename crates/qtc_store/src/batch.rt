@@ -1,5 +1,5 @@
 use qtc_base::List;
-use std::alloc::AllocFailed;
+use std::alloc::{AllocError, AllocFailed};
 
 /// The end that no stored batch may pass.
 pub const MOST_END: u32 = 8_388_608;
@@ -9,8 +9,8 @@ pub const MOST_END: u32 = 8_388_608;
 #[derive(Drop)]
 pub struct Batch<V> {
     pub begin: u32,
-    pub values: List<V>,
     pub total: u32,
+    pub values: List<V>,
 }
 
 /// A batch that is offered to a store. Without a `begin` it goes where the last batch ends.
@@ -47,6 +47,17 @@ impl<T: Drop> From<AllocFailed<T>> for AddFault {
     ghost from_gives = { λ _ fault. fault ≡ Memory };
 
     fn from(_error: AllocFailed<T>) -> AddFault {
+        AddFault::Memory
+    }
+}
+
+impl From<AllocError> for AddFault {
+    ghost use Rattle.std.specs.Prelude.{◌≡◌};
+    ghost use Rattle.qtc_store.specs.declared.batch.AddFault.TheVariants.{Memory};
+
+    ghost from_gives = { λ _ fault. fault ≡ Memory };
+
+    fn from(_error: AllocError) -> AddFault {
         AddFault::Memory
     }
 }

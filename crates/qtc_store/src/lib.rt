@@ -3,11 +3,13 @@
 #![tactic(auto)]
 
 mod batch;
+mod front;
 mod laws;
+mod pending;
+mod ranges;
 mod store;
 #[cfg(test)]
 mod tests;
-mod walks;
 
 pub use batch::{AddFault, Added, Addition, Batch, MOST_END};
 pub use laws::{batches_in_order_ascend, most_end_is_the_limit, visible_is_below_gap};

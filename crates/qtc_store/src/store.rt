@@ -1,11 +1,9 @@
 ghost use Rattle.std.specs.Prelude.{◌≡◌, ◌+◌, ◌<◌, ◌≤◌, true, false, [], ◌∷◌, OnOk, OnErr, IfOk, IfErr, IsSome, IsTrue, None, Some, is_some, ℕ, Err, length, map, option_copied, unwrap_or, All};
-ghost use Rattle.qtc_store.specs.Batches.{greatest_end, most_end};
+ghost use Rattle.qtc_store.specs.Batches.{greatest_end, least_covered, most_end};
 
 use crate::batch::MOST_END;
-use crate::walks::{
-    first_covered, greatest_end_of, meeting_end_of, meeting_len, place_of, ranges_of_batches,
-    ranges_of_visible, value_at_index, value_at_position, visible_count, visible_values,
-};
+use crate::front::Front;
+use crate::pending::Pending;
 use crate::{AddFault, Added, Addition, Batch};
 use qtc_base::{List, NoMemory, Range};
 use std::alloc::Global;
@@ -17,10 +15,15 @@ use std::marker::Model;
 /// all of them. In filter mode a batch has the values that a filter kept, and the store is one list: the
 /// values of the batches that meet from index 0 on, numbered from 0. What lies behind a gap is pending. In
 /// both modes an index is covered once. (After Qt's result store.)
+///
+/// A batch that comes in order is put at the end of a vector. One that comes before its turn waits in an
+/// ordered map until the gap before it closes, and is then moved once.
 #[derive(Drop)]
 pub struct ResultStore<V> {
     filter: bool,
-    batches: Vec<Batch<V>>,
+    front: Front<V>,
+    pending: Pending<V>,
+    end: u32,
 }
 
 impl<V> Model for ResultStore<V> {
@@ -28,11 +31,11 @@ impl<V> Model for ResultStore<V> {
 
     ghost Value = { Stored V };
 
-    ghost use Rattle.qtc_store.specs.Stored.{IsStore};
+    ghost use Rattle.qtc_store.specs.Inside.{batches_in, IsLaid};
 
-    ghost view = { λ s. record { filter = s.filter; batches = s.batches.items } };
+    ghost view = { λ s. record { filter = s.filter; batches = batches_in s.front s.pending } };
 
-    ghost invariant = { λ s. IsStore s.filter s.batches.items };
+    ghost invariant = { λ s. IsLaid s.filter s.front s.pending s.end };
 }
 
 impl<V> ResultStore<V> {
@@ -44,7 +47,9 @@ impl<V> ResultStore<V> {
     {
         ResultStore {
             filter,
-            batches: Vec::new(alloc),
+            front: Front::new(alloc),
+            pending: Pending::new(alloc),
+            end: 0,
         }
     }
 
@@ -59,12 +64,13 @@ impl<V> ResultStore<V> {
     pub fn get(&self, index: u32) -> Option<&V>
         ensures { option_copied result ≡ value_at self.now index }
     {
-        if self.filter {
-            let visible = meeting_len(&self.batches);
-            value_at_position(&self.batches[..visible], index)
-        } else {
-            value_at_index(&self.batches, index)
+        if index < self.front.count {
+            return self.front.get(index);
         }
+        if self.filter {
+            return None;
+        }
+        self.pending.get(index)
     }
 
     /// Whether there is a result at `index`.
@@ -80,11 +86,7 @@ impl<V> ResultStore<V> {
         ensures first_gap { IsFirstGap self.now result }
         ensures within { result ≤ most_end }
     {
-        if self.filter {
-            visible_count(&self.batches)
-        } else {
-            meeting_end_of(&self.batches)
-        }
+        self.front.count
     }
 
     /// Where a result without an index of its own goes: the greatest end of a batch, or 0.
@@ -92,7 +94,7 @@ impl<V> ResultStore<V> {
         ensures index { result ≡ greatest_end self.now.batches }
         ensures within { result ≤ most_end }
     {
-        greatest_end_of(&self.batches)
+        self.end
     }
 
     /// The ranges of the stored batches, or in filter mode the positions of the visible batches that have
@@ -101,12 +103,14 @@ impl<V> ResultStore<V> {
         ensures ranges { IfOk result (λ ranges. map bounds_of ranges ≡ ranges_of self.now) }
         ensures just { IfOk result (λ ranges. AreRangesOf self.now (map bounds_of ranges)) }
     {
-        let alloc = *self.batches.allocator();
+        let mut ranges = List::new(*self.front.met.allocator());
         if self.filter {
-            ranges_of_visible(alloc, &self.batches)
+            self.front.append_positions(&mut ranges)?;
         } else {
-            ranges_of_batches(alloc, &self.batches)
+            self.front.append_ranges(&mut ranges)?;
+            self.pending.append_ranges(&mut ranges)?;
         }
+        Ok(ranges)
     }
 
     /// The results below the count, in order. Err is want of memory, and drops the store.
@@ -115,17 +119,34 @@ impl<V> ResultStore<V> {
         V: Drop,
         ensures { IfOk result (λ values. IsFirstResults self values) }
     {
-        let alloc = *self.batches.allocator();
-        let ResultStore { filter: _, batches } = self;
-        let values = visible_values(alloc, batches)?;
+        let ResultStore {
+            filter: _,
+            front,
+            pending: _,
+            end: _,
+        } = self;
+        let values = front.into_values()?;
         Ok(List::from_vec(values))
+    }
+
+    /// The least index from `begin` to `begin + total` that a batch covers.
+    fn first_covered(&self, begin: u32, total: u32) -> Option<u32>
+        ensures { result ≡ least_covered self.now.batches begin total }
+    {
+        if total == 0 || begin >= self.end {
+            return None;
+        }
+        if begin < self.front.place {
+            return Some(begin);
+        }
+        self.pending.first_covered(begin, total)
     }
 
     /// Why a batch would be refused, want of memory apart.
     fn refusal(&self, begin: u32, total: u32) -> Option<AddFault>
         ensures { result ≡ refusal_of self.now.batches begin total }
     {
-        if let Some(index) = first_covered(&self.batches, begin, total) {
+        if let Some(index) = self.first_covered(begin, total) {
             return Some(AddFault::Taken(index));
         }
         if u64::from(begin) + u64::from(total) > u64::from(MOST_END) {
@@ -140,8 +161,9 @@ impl<V: Drop> ResultStore<V> {
     ghost use Rattle.qtc_store.specs.Batches.{IsWhole};
     ghost use Rattle.qtc_store.specs.Stored.{batch_with, goes_at, with_batch, KeepsResults, NothingRefuses};
 
-    /// Stores a batch that is not refused. An Err is want of memory.
-    fn insert(&mut self, batch: Batch<V>) -> Result<(), AddFault>
+    /// Puts a batch that is not refused in its place. An Err is want of memory, and all of it is taken before
+    /// the first change.
+    fn put(&mut self, batch: Batch<V>) -> Result<(), AddFault>
         requires free { NothingRefuses self.old batch.begin batch.total }
         requires whole { IsWhole self.old.filter batch }
         ensures ok { OnOk result (self.new ≡ with_batch self.old batch) }
@@ -149,10 +171,19 @@ impl<V: Drop> ResultStore<V> {
         ensures memory { IfErr result (λ fault. fault ≡ AddFault.Memory) }
         ensures err { OnErr result (self.new ≡ self.old) }
     {
-        if batch.total > 0 {
-            let place = place_of(&self.batches, batch.begin);
-            self.batches.insert(place, batch)?;
+        if batch.total == 0 {
+            return Ok(());
         }
+        let end = batch.begin + batch.total;
+        if batch.begin == self.front.place {
+            let joining = self.pending.meeting_len(end);
+            self.front.met.reserve(joining + 1)?;
+            self.front.push(batch);
+            self.front.join(&mut self.pending);
+        } else {
+            self.pending.insert(batch)?;
+        }
+        self.end = self.end.max(end);
         Ok(())
     }
 
@@ -164,7 +195,7 @@ impl<V: Drop> ResultStore<V> {
     {
         let begin = batch.begin;
         let old_count = self.count();
-        self.insert(batch)?;
+        self.put(batch)?;
         let new_count = self.count();
         Ok(Added {
             begin,
@@ -201,7 +232,7 @@ impl<V: Drop> ResultStore<V> {
         if let Some(fault) = self.refusal(begin, 1) {
             return Err(fault);
         }
-        let values = single(*self.batches.allocator(), value)?;
+        let values = single(*self.front.met.allocator(), value)?;
         self.accept(Batch {
             begin,
             values,

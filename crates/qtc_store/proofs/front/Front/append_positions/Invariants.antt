@@ -1,0 +1,8 @@
+use Rattle.std.proofs.Common.{◌≡◌, ◌++◌, map, take}
+use Rattle.qtc_store.specs.Inside.{batches_of}
+use Rattle.qtc_store.specs.Stored.{bounds_of}
+use Rattle.qtc_store.specs.Visible.{position_ranges}
+use Rattle.qtc_store.proofs.front.Front.append_positions.Given as goal
+
+abbrev pub invariant-loop-met : goal.invariant-loop-met
+invariant-loop-met g l = map bounds_of l.ranges ≡ map bounds_of l.initial.ranges ++ position_ranges 0 (batches_of (take l.met-index l.self.met.items))

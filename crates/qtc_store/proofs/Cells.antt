@@ -12,7 +12,6 @@ use Rattle.std.specs.List.{flat_map}
 use Rattle.qtc_store.specs.declared.batch.Batch.{Batch}
 use Rattle.qtc_store.specs.Batches.{values_of}
 use Rattle.qtc_store.specs.Results.{cells_of, results}
-use Rattle.qtc_store.proofs.Covered.{drop_read}
 
 -- ---- by index
 pub find-past : {V : Type 0} (q begin : ℕ) (values : List V) (es : List (ℕ × V)) → begin + length values ≤ q → find nat_cmp q (enumerate_from begin values ++ es) ≡ find nat_cmp q es
@@ -50,33 +49,6 @@ slice_get-append_right [] ys i h = ap (slice_get ys) (omega arith)
 slice_get-append_right (x ∷ xs) ys zero h = absurd (omega arith)
 slice_get-append_right (x ∷ xs) ys (suc i) h = slice_get-append_right xs ys i (omega arith) ∙ ap (slice_get ys) (omega arith)
 
--- ---- a walk from batch to batch
+-- ---- the map of batches
 pub results_found : {V : Type 0} (batches : List (Batch V)) (q : ℕ) → get (results batches) q ≡ find nat_cmp q (flat_map cells_of batches)
 results_found batches q = get-from_entries nat_cmp_total (flat_map cells_of batches) q
-
-module _ {V : Type 0} (batches : List (Batch V)) (i : ℕ) (b : Batch V) (within : i < length batches) (is : b ≡ get_or batches i b) where
-  pub index_before : (q : ℕ) → q < b.begin → find nat_cmp q (flat_map cells_of (drop (i + 1) batches)) ≡ find nat_cmp q (flat_map cells_of (drop i batches))
-  index_before q h =
-      sym (ap (λ xs. find nat_cmp q (flat_map cells_of xs)) (drop_read batches i b within is) ∙ find-before q b.begin b.values _ h)
-
-  pub index_past : (q : ℕ) → b.begin + length b.values ≤ q → find nat_cmp q (flat_map cells_of (drop (i + 1) batches)) ≡ find nat_cmp q (flat_map cells_of (drop i batches))
-  index_past q h =
-      sym (ap (λ xs. find nat_cmp q (flat_map cells_of xs)) (drop_read batches i b within is) ∙ find-past q b.begin b.values _ h)
-
-  pub index_at : (q : ℕ) (d : V) → b.begin ≤ q → q < b.begin + length b.values → find nat_cmp q (flat_map cells_of (drop i batches)) ≡ Some (get_or b.values (q - b.begin) d)
-  index_at q d low high =
-      ap (λ xs. find nat_cmp q (flat_map cells_of xs)) (drop_read batches i b within is) ∙ find-at q b.begin b.values _ d low high
-
-  pub position_past : (p : ℕ) → length b.values ≤ p → slice_get (flat_map values_of (drop (i + 1) batches)) (p - length b.values) ≡ slice_get (flat_map values_of (drop i batches)) p
-  position_past p h =
-      sym (ap (λ xs. slice_get (flat_map values_of xs) p) (drop_read batches i b within is) ∙ slice_get-append_right b.values _ p h)
-
-  pub position_at : (p : ℕ) (d : V) → p < length b.values → slice_get (flat_map values_of (drop i batches)) p ≡ Some (get_or b.values p d)
-  position_at p d h =
-      ap (λ xs. slice_get (flat_map values_of xs) p) (drop_read batches i b within is) ∙ slice_get-append_left b.values _ p d h
-
-pub index_end : {V : Type 0} (batches : List (Batch V)) (i q : ℕ) → length batches ≤ i → find nat_cmp q (flat_map cells_of (drop i batches)) ≡ None
-index_end batches i q past = ap (λ xs. find nat_cmp q (flat_map cells_of xs)) (drop_all i batches past)
-
-pub position_end : {V : Type 0} (batches : List (Batch V)) (i p : ℕ) → length batches ≤ i → slice_get (flat_map values_of (drop i batches)) p ≡ None
-position_end batches i p past = ap (λ xs. slice_get (flat_map values_of xs) p) (drop_all i batches past)

@@ -7,17 +7,6 @@ use Rattle.std.proofs.lemmas.List.{drop_more, drop_all}
 use Rattle.qtc_store.specs.declared.batch.Batch.{Batch}
 use Rattle.qtc_store.specs.Batches.{end_of, covers, is_covered, least_covered, greatest_end, AreApart}
 
--- ---- the ends of batches
-pub end_of-le : {V : Type 0} (batches : List (Batch V)) (i : ℕ) (d : Batch V) → i < length batches → end_of (get_or batches i d) ≤ greatest_end batches
-end_of-le [] i d h = absurd (omega arith)
-end_of-le (b ∷ batches) zero d h = omega arith
-end_of-le (b ∷ batches) (suc i) d h = omega (arith, end_of-le batches i d (omega arith))
-
-pub greatest_end-drop : {V : Type 0} (i : ℕ) (batches : List (Batch V)) → greatest_end (drop i batches) ≤ greatest_end batches
-greatest_end-drop zero batches = omega arith
-greatest_end-drop (suc i) [] = omega arith
-greatest_end-drop (suc i) (b ∷ batches) = omega (arith, greatest_end-drop i batches)
-
 -- ---- batches apart
 pub apart_lower : {V : Type 0} (low low' : ℕ) (batches : List (Batch V)) → low ≤ low' → AreApart low' batches → AreApart low batches
 apart_lower low low' [] h a = tt
@@ -57,11 +46,9 @@ abbrev pub first_of : ℕ → ℕ → Option ℕ
 first_of first end = if nat_lt first end then Some first else None
 
 first_of-none : (first end : ℕ) → end ≤ first → first_of first end ≡ None
-unfolding first_of
 first_of-none first end h = grind (arith, nat_tests)
 
 first_of-some : (first end : ℕ) → first < end → first_of first end ≡ Some first
-unfolding first_of
 first_of-some first end h = grind (arith, nat_tests)
 
 pub hit : {V : Type 0} (b : Batch V) (batches : List (Batch V)) (low begin total : ℕ) → AreApart low (b ∷ batches) → begin < end_of b → find (is_covered (b ∷ batches)) (range_with_len begin total) ≡ first_of (max b.begin begin) (begin + total)
@@ -83,30 +70,3 @@ hit b batches low begin (suc total) a h =
 pub least_covered-nil : (V : Type 0) (begin total : ℕ) → least_covered {V = V} [] begin total ≡ None
 least_covered-nil V begin zero = refl
 least_covered-nil V begin (suc total) = least_covered-nil V (begin + 1) total
-
--- ---- a walk from batch to batch
-pub drop_read : {X : Type 0} (xs : List X) (i : ℕ) (x : X) → i < length xs → x ≡ get_or xs i x → drop i xs ≡ x ∷ drop (i + 1) xs
-drop_read xs i x h is = drop_more xs i x h ∙ ap (λ y. y ∷ drop (i + 1) xs) (sym is)
-
-pub end_of-read : {V : Type 0} (batches : List (Batch V)) (i : ℕ) (b : Batch V) → i < length batches → b ≡ get_or batches i b → end_of b ≤ greatest_end batches
-end_of-read batches i b h is =
-    let P : Batch _ → Type 0 = λ x. end_of x ≤ greatest_end batches in
-    subst P (sym is) (end_of-le batches i b h)
-
-module _ {V : Type 0} (batches : List (Batch V)) (i : ℕ) (b : Batch V) (within : i < length batches) (is : b ≡ get_or batches i b) (begin total : ℕ) where
-  pub walk_past : end_of b ≤ begin → (least_covered (drop i batches) begin total ≡ least_covered batches begin total) × AreApart 0 (drop i batches) → (least_covered (drop (i + 1) batches) begin total ≡ least_covered batches begin total) × AreApart 0 (drop (i + 1) batches)
-  walk_past h inv =
-      let at = drop_read batches i b within is in
-      let apart = subst (AreApart 0) at inv.1 in
-      (sym (least_covered-past b (drop (i + 1) batches) begin total h) ∙ ap (λ xs. least_covered xs begin total) (sym at) ∙ inv.0, apart_lower 0 (end_of b) _ (omega arith) apart.2)
-
-  pub walk_hit : begin < end_of b → (least_covered (drop i batches) begin total ≡ least_covered batches begin total) × AreApart 0 (drop i batches) → least_covered batches begin total ≡ (if nat_lt (max b.begin begin) (begin + total) then Some (max b.begin begin) else None)
-  unfolding first_of
-  walk_hit h inv =
-      let at = drop_read batches i b within is in
-      let apart = subst (AreApart 0) at inv.1 in
-      sym inv.0 ∙ ap (λ xs. least_covered xs begin total) at ∙ hit b (drop (i + 1) batches) 0 begin total apart h
-
-pub walk_end : {V : Type 0} (batches : List (Batch V)) (i begin total : ℕ) → length batches ≤ i → least_covered (drop i batches) begin total ≡ least_covered batches begin total → None ≡ least_covered batches begin total
-walk_end {V = V} batches i begin total past e =
-    sym (least_covered-nil V begin total) ∙ ap (λ xs. least_covered xs begin total) (sym (drop_all i batches past)) ∙ e

@@ -128,6 +128,3 @@ module _ {V : Type 0} (batches : List (Batch V)) (store : IsStore false batches)
     below = λ index less. has_result batches index (full_from batches store.whole) ∙ meeting_covered 0 index batches (omega arith) less;
     gap = none_from _ (has_result batches (meeting_end 0 batches) (full_from batches store.whole) ∙ end_uncovered 0 batches store.apart);
   }
-
-  pub plain_within : meeting_end 0 batches ≤ 8388608
-  plain_within = omega (arith, meeting_end-le 0 batches, store.bounded)

@@ -9,9 +9,9 @@ ghost use Rattle.qtc_store.specs.Results.{result_ranges};
 ghost use Rattle.qtc_store.specs.Stored.{bounds_of};
 ghost use Rattle.qtc_store.specs.Visible.{meeting, position_ranges};
 
+use crate::Batch;
 use crate::pending::Pending;
 use crate::ranges::{append_positions, append_range};
-use crate::Batch;
 use qtc_base::{List, NoMemory, Range};
 use std::alloc::Global;
 
@@ -125,7 +125,11 @@ impl<V> Front<V> {
         V: Drop,
         ensures { IfOk result (λ values. values.items ≡ flat_map values_of (met_in self)) }
     {
-        let Front { met, place: _, count } = self;
+        let Front {
+            met,
+            place: _,
+            count,
+        } = self;
         let mut all = Vec::new(*met.allocator());
         all.reserve(count as usize)?;
         for Met { first: _, batch } in met {

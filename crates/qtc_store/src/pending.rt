@@ -63,10 +63,7 @@ impl<V> Pending<V> {
         ensures { option_copied result ≡ get (results (waiting_in self.now)) index }
     {
         match self.last_up_to(index) {
-            Some(batch) => batch
-                .values
-                .as_slice()
-                .get((index - batch.begin) as usize),
+            Some(batch) => batch.values.as_slice().get((index - batch.begin) as usize),
             None => None,
         }
     }

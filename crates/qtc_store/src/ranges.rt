@@ -8,11 +8,7 @@ ghost use Rattle.qtc_store.specs.Visible.{positions};
 use qtc_base::{List, NoMemory, Range};
 
 /// Appends a range. Err is want of memory.
-pub(crate) fn append_range(
-    begin: u32,
-    end: u32,
-    ranges: &mut List<Range>,
-) -> Result<(), NoMemory>
+pub(crate) fn append_range(begin: u32, end: u32, ranges: &mut List<Range>) -> Result<(), NoMemory>
     requires { begin ≤ end }
     ensures { OnOk result (map bounds_of ranges.new ≡ map bounds_of ranges.old ++ (begin, end) ∷ []) }
 {

@@ -1,5 +1,8 @@
 ghost use Rattle.std.specs.Prelude.{◌≡◌, [], ◌∷◌, IfOk};
 
+mod compared;
+mod plain;
+
 use crate::{AddFault, Added, Addition, ResultStore};
 use qtc_base::{List, NoMemory, Range};
 use std::alloc::Global;

@@ -53,15 +53,15 @@ lays g c =
 
 same_mode : (g : _) (c : goal.After-self-1 g) → c.if-batch-self.self-inside.filter ≡ c.self.inside.filter
 same_mode g c = elim c.if-batch-self.branch [
-    | then-batch-self+in_ok-reserve w ↦ ap (λ i. i.filter) w.self-inside-is
-    | else-batch-self+in_ok-insert w ↦ ap (λ i. i.filter) w.self-inside-is
-  ]
+  | then-batch-self+in_ok-reserve w ↦ ap (λ i. i.filter) w.self-inside-is
+  | else-batch-self+in_ok-insert w ↦ ap (λ i. i.filter) w.self-inside-is
+]
 
 same_end : (g : _) (c : goal.After-self-1 g) → c.if-batch-self.self-inside.end ≡ c.self.inside.end
 same_end g c = elim c.if-batch-self.branch [
-    | then-batch-self+in_ok-reserve w ↦ ap (λ i. i.end) w.self-inside-is
-    | else-batch-self+in_ok-insert w ↦ ap (λ i. i.end) w.self-inside-is
-  ]
+  | then-batch-self+in_ok-reserve w ↦ ap (λ i. i.end) w.self-inside-is
+  | else-batch-self+in_ok-insert w ↦ ap (λ i. i.end) w.self-inside-is
+]
 
 pub invariant_of-self-2 : goal.invariant_of-self-2
 invariant_of-self-2 g c =

@@ -5,9 +5,11 @@ use locks::print_locks;
 use operations::print_operations;
 use std::process::ExitCode;
 use std::{env, io};
+use stores::{Order, print_filled, print_stores};
 
 mod locks;
 mod operations;
+mod stores;
 mod tables;
 mod texts;
 mod timing;
@@ -16,6 +18,8 @@ mod timing;
 const USAGE: &str = "\
 usage: qtc_bench ops    the operations of jobs over 1000000 lines, ns an item
        qtc_bench lock   a lock that is known by its key beside std's, ns for a take and a put
+       qtc_bench store  a store of results, ns for an add and a get
+       qtc_bench fill ascending|descending|shuffled    1000000 batches in a store
 ";
 
 fn main(rt: HostRuntime) -> io::Result<ExitCode> {
@@ -25,10 +29,15 @@ fn main(rt: HostRuntime) -> io::Result<ExitCode> {
         print!(rt; "{USAGE}")?;
         return Ok(ExitCode::SUCCESS);
     };
-    let is_last = words.next().is_none();
-    match word.as_str() {
-        "ops" if is_last => print_operations(&rt, alloc)?,
-        "lock" if is_last => print_locks(&rt, alloc)?,
+    let second = words.next();
+    let order = second.as_ref().map(|word| word.as_str());
+    match (word.as_str(), order) {
+        ("ops", None) => print_operations(&rt, alloc)?,
+        ("lock", None) => print_locks(&rt, alloc)?,
+        ("store", None) => print_stores(&rt, alloc)?,
+        ("fill", Some("ascending")) => print_filled(&rt, alloc, Order::Ascending)?,
+        ("fill", Some("descending")) => print_filled(&rt, alloc, Order::Descending)?,
+        ("fill", Some("shuffled")) => print_filled(&rt, alloc, Order::Shuffled)?,
         _ => {
             eprint!(rt; "{USAGE}")?;
             return Ok(ExitCode::from(2));

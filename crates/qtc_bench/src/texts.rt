@@ -10,20 +10,20 @@ pub const LINES: u32 = 1_000_000;
 
 /// Pseudo-random numbers below 2^31, by a linear congruential generator.
 #[derive(Drop)]
-struct Numbers {
+pub struct Numbers {
     last: u64,
     ghost in_range: { last < 2 ^ 31 },
 }
 
 impl Numbers {
-    fn starting_at_one() -> Numbers
+    pub fn starting_at_one() -> Numbers
         ensures { result.last ≡ 1 }
     {
         Numbers { last: 1 }
     }
 
     /// The number after the last one.
-    fn advance(&mut self) -> u64
+    pub fn advance(&mut self) -> u64
         ensures step { result ≡ (1103515245 * self.old.last + 12345) % 2 ^ 31 }
         ensures kept { self.new.last ≡ result }
     {

@@ -1,13 +1,15 @@
 -- How a store lies in memory. (Own.)
 use Rattle.std.specs.Prelude.{ℕ, ◌≡◌, ◌+◌, ◌≤◌, nat_le, nat_lt, Bool, List, [], ◌∷◌, ◌++◌, length, map, filter, All}
 use Rattle.std.specs.List.{flat_map}
+use Rattle.std.specs.Vec.{vec_len, vec_capacity}
+use Rattle.qtc_base.specs.declared.ranges.Range.{Range}
 use Rattle.qtc_store.specs.declared.batch.Batch.{Batch}
 use Rattle.qtc_store.specs.declared.front.Front.{Front}
 use Rattle.qtc_store.specs.declared.front.Met.{Met}
 use Rattle.qtc_store.specs.declared.pending.Pending.{Pending}
 use Rattle.qtc_store.specs.Batches.{end_of, values_of, greatest_end, most_end}
 use Rattle.qtc_store.specs.Visible.{meeting, meeting_end}
-use Rattle.qtc_store.specs.Stored.{IsStore}
+use Rattle.qtc_store.specs.Stored.{bounds_of, IsStore}
 
 abbrev pub batches_of : {V : Type 0} → List (Met V) → List (Batch V)
 batches_of met = map (λ m. m.batch) met
@@ -19,6 +21,10 @@ met_in front = batches_of front.met.items
 -- those behind a gap
 abbrev pub waiting_in : {V : Type 0} → Pending V → List (Batch V)
 waiting_in pending = map (λ e. e.1) pending.batches.entries
+
+-- the ranges are those that there were, and these
+abbrev pub Appends : (old new : List Range) → List (ℕ × ℕ) → Type 0
+Appends old new ranges = map bounds_of new ≡ map bounds_of old ++ ranges
 
 -- those that begin at the index or below it, and those that begin after it
 abbrev pub up_to : {V : Type 0} → ℕ → List (Batch V) → List (Batch V)
@@ -44,6 +50,10 @@ pub record IsFront {V : Type 0} (front : Front V) : Type 0 where
   pub count : front.count ≡ length (flat_map values_of (met_in front))
   pub few : front.count ≤ front.place
   pub bounded : front.place ≤ most_end
+
+-- so many more batches fit without memory
+abbrev pub HasRoom : {V : Type 0} → Front V → ℕ → Type 0
+HasRoom front more = vec_len front.met + more ≤ vec_capacity front.met
 
 -- each batch stands at its begin
 pub record IsKeyed {V : Type 0} (pending : Pending V) : Type 0 where

@@ -1,12 +1,11 @@
 //! The batches that meet from index 0 on.
 
-ghost use Rattle.std.specs.Prelude.{◌≡◌, ◌+◌, ◌<◌, ◌≤◌, [], ◌∷◌, ◌++◌, length, map, option_copied, slice_get, All, OnOk, IfOk};
+ghost use Rattle.std.specs.Prelude.{◌≡◌, ◌+◌, ◌≤◌, [], ◌∷◌, ◌++◌, length, option_copied, slice_get, All, OnOk, IfOk};
 ghost use Rattle.std.specs.List.{flat_map};
 ghost use Rattle.std.specs.Vec.{vec_len, vec_capacity};
 ghost use Rattle.qtc_store.specs.Batches.{greatest_end, most_end, values_of};
-ghost use Rattle.qtc_store.specs.Inside.{met_in, waiting_in, IsFront, IsKeyed};
+ghost use Rattle.qtc_store.specs.Inside.{met_in, waiting_in, Appends, HasRoom, IsFront, IsKeyed};
 ghost use Rattle.qtc_store.specs.Results.{result_ranges};
-ghost use Rattle.qtc_store.specs.Stored.{bounds_of};
 ghost use Rattle.qtc_store.specs.Visible.{meeting, position_ranges};
 
 use crate::Batch;
@@ -62,7 +61,7 @@ impl<V> Front<V> {
     /// Appends a batch that begins at the place, where there is room for it.
     pub(crate) fn push(&mut self, batch: Batch<V>)
         requires laid { IsFront self.old }
-        requires room { vec_len self.old.met < vec_capacity self.old.met }
+        requires room { HasRoom self.old 1 }
         requires meets { batch.begin ≡ self.old.place }
         requires few { length batch.values ≤ batch.total }
         requires bounded { batch.begin + batch.total ≤ most_end }
@@ -82,7 +81,7 @@ impl<V> Front<V> {
     pub(crate) fn join(&mut self, pending: &mut Pending<V>)
         requires laid { IsFront self.old }
         requires keyed { IsKeyed pending.old }
-        requires room { vec_len self.old.met + length (meeting self.old.place (waiting_in pending.old)) ≤ vec_capacity self.old.met }
+        requires room { HasRoom self.old (length (meeting self.old.place (waiting_in pending.old))) }
         requires few { All (λ batch. length batch.values ≤ batch.total) (waiting_in pending.old) }
         requires bounded { greatest_end (waiting_in pending.old) ≤ most_end }
         ensures laid { IsFront self.new }
@@ -98,7 +97,7 @@ impl<V> Front<V> {
     /// Appends the ranges that the batches cover. Err is want of memory.
     pub(crate) fn append_ranges(&self, ranges: &mut List<Range>) -> Result<(), NoMemory>
         requires { IsFront self.now }
-        ensures { OnOk result (map bounds_of ranges.new ≡ map bounds_of ranges.old ++ result_ranges (met_in self.now)) }
+        ensures { OnOk result (Appends ranges.old ranges.new (result_ranges (met_in self.now))) }
     {
         for met in &self.met {
             let begin = met.batch.begin;
@@ -110,7 +109,7 @@ impl<V> Front<V> {
     /// Appends the positions of each batch that has values. Err is want of memory.
     pub(crate) fn append_positions(&self, ranges: &mut List<Range>) -> Result<(), NoMemory>
         requires { IsFront self.now }
-        ensures { OnOk result (map bounds_of ranges.new ≡ map bounds_of ranges.old ++ position_ranges 0 (met_in self.now)) }
+        ensures { OnOk result (Appends ranges.old ranges.new (position_ranges 0 (met_in self.now))) }
     {
         for met in &self.met {
             let count = met.batch.values.as_slice().len() as u32;

@@ -5,9 +5,8 @@ ghost use Rattle.std.specs.List.{last_or};
 ghost use Rattle.std.specs.Ordering.{nat_cmp};
 ghost use Rattle.std.specs.FinMap.{get};
 ghost use Rattle.qtc_store.specs.Batches.{AreApart, greatest_end, is_covered, least_covered, most_end, placed};
-ghost use Rattle.qtc_store.specs.Inside.{after, up_to, waiting_in, IsKeyed};
+ghost use Rattle.qtc_store.specs.Inside.{after, up_to, waiting_in, Appends, IsKeyed};
 ghost use Rattle.qtc_store.specs.Results.{results, result_ranges};
-ghost use Rattle.qtc_store.specs.Stored.{bounds_of};
 ghost use Rattle.qtc_store.specs.Visible.{meeting};
 
 use crate::ranges::append_range;
@@ -122,7 +121,8 @@ impl<V> Pending<V> {
     pub(crate) fn take_at(&mut self, place: u32) -> Option<Batch<V>>
         requires { IsKeyed self.old }
         ensures keyed { IsKeyed self.new }
-        ensures taken { MatchOption result (waiting_in self.new ≡ waiting_in self.old) (λ batch. waiting_in self.old ≡ batch ∷ waiting_in self.new) }
+        ensures taken { MatchOption result (waiting_in self.new ≡ waiting_in self.old)
+            (λ batch. waiting_in self.old ≡ batch ∷ waiting_in self.new) }
         ensures at { MatchOption result (meeting place (waiting_in self.old) ≡ []) (λ batch. batch.begin ≡ place) }
     {
         let (begin, _) = self.batches.first_key_value()?;
@@ -136,7 +136,7 @@ impl<V> Pending<V> {
     /// Appends the ranges that the batches cover. Err is want of memory.
     pub(crate) fn append_ranges(&self, ranges: &mut List<Range>) -> Result<(), NoMemory>
         requires { greatest_end (waiting_in self.now) ≤ most_end }
-        ensures { OnOk result (map bounds_of ranges.new ≡ map bounds_of ranges.old ++ result_ranges (waiting_in self.now)) }
+        ensures { OnOk result (Appends ranges.old ranges.new (result_ranges (waiting_in self.now))) }
     {
         for (_, batch) in &self.batches {
             append_range(batch.begin, batch.begin + batch.total, ranges)?;

@@ -1,8 +1,8 @@
 //! Ranges that a store tells.
 
-ghost use Rattle.std.specs.Prelude.{◌≡◌, ◌+◌, ◌≤◌, [], ◌∷◌, ◌++◌, map, OnOk};
+ghost use Rattle.std.specs.Prelude.{◌+◌, ◌≤◌, [], ◌∷◌, OnOk};
 ghost use Rattle.qtc_store.specs.Batches.{most_end};
-ghost use Rattle.qtc_store.specs.Stored.{bounds_of};
+ghost use Rattle.qtc_store.specs.Inside.{Appends};
 ghost use Rattle.qtc_store.specs.Visible.{positions};
 
 use qtc_base::{List, NoMemory, Range};
@@ -10,7 +10,7 @@ use qtc_base::{List, NoMemory, Range};
 /// Appends a range. Err is want of memory.
 pub(crate) fn append_range(begin: u32, end: u32, ranges: &mut List<Range>) -> Result<(), NoMemory>
     requires { begin ≤ end }
-    ensures { OnOk result (map bounds_of ranges.new ≡ map bounds_of ranges.old ++ (begin, end) ∷ []) }
+    ensures { OnOk result (Appends ranges.old ranges.new ((begin, end) ∷ [])) }
 {
     match ranges.push(Range { begin, end }) {
         Ok(()) => Ok(()),
@@ -25,7 +25,7 @@ pub(crate) fn append_positions(
     ranges: &mut List<Range>,
 ) -> Result<(), NoMemory>
     requires { position + count ≤ most_end }
-    ensures { OnOk result (map bounds_of ranges.new ≡ map bounds_of ranges.old ++ positions position count) }
+    ensures { OnOk result (Appends ranges.old ranges.new (positions position count)) }
 {
     if count == 0 {
         return Ok(());

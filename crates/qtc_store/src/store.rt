@@ -255,8 +255,10 @@ impl<V: Drop> ResultStore<V> {
         ensures accepted { IfOk result (λ store. store ≡ store_of filter (accepted_of additions.items)) }
 
         // In words of the accepted ones as they came: in plain mode their map, in filter mode the taken ones.
-        ensures results { filter ≡ false → IfOk result (λ store. HasResultsOf store (accepted_of additions.items)) }
-        ensures shown { filter ≡ true → IfOk result (λ store. ShowsTaken store (accepted_of additions.items)) }
+        ensures results { filter ≡ false
+            → IfOk result (λ store. HasResultsOf store (accepted_of additions.items)) }
+        ensures shown { filter ≡ true
+            → IfOk result (λ store. ShowsTaken store (accepted_of additions.items)) }
     {
         let mut store = ResultStore::new(alloc, filter);
         for addition in additions {

@@ -23,27 +23,60 @@ fn added(begin: u32, old_count: u32, new_count: u32) -> Added {
     }
 }
 
+/// The lines of the README's first use.
 #[test]
-fn pending_results_show_once_the_gap_is_filled(rt: HostRuntime) -> Result<(), Fail> {
+fn first_use(rt: HostRuntime) -> Result<(), Fail> {
+    let alloc = rt.alloc();
+    let mut store = ResultStore::new(alloc, true);
+    let added = store.add_batch(4, list(alloc, b"e")?, 2)?;
+    assert_eq!(rt;
+        added,
+        Added {
+            begin: 4,
+            old_count: 0,
+            new_count: 0
+        }
+    );
+    store.add_batch(0, list(alloc, b"")?, 2)?;
+    assert_eq!(rt; store.get(0), None);
+    let added = store.add_batch(2, list(alloc, b"cd")?, 2)?;
+    assert_eq!(rt;
+        added,
+        Added {
+            begin: 2,
+            old_count: 0,
+            new_count: 3
+        }
+    );
+    assert_eq!(rt; store.get(2), Some(&b'e'));
+    let results = store.into_results()?;
+    assert_eq!(rt; results.as_slice(), b"cde".as_slice());
+    Ok(())
+}
+
+#[test]
+fn positions_are_told_batch_by_batch(rt: HostRuntime) -> Result<(), Fail> {
     let alloc = rt.alloc();
     let mut store = ResultStore::new(alloc, true);
     assert!(rt; store.is_filter());
-    assert_eq!(rt; store.add_batch(4, list(alloc, b"e")?, 2)?, added(4, 0, 0));
-    assert_eq!(rt; store.add_batch(0, list(alloc, b"")?, 2)?, added(0, 0, 0));
-    assert_eq!(rt; store.get(0), None);
-    assert_eq!(rt; store.add_batch(2, list(alloc, b"cd")?, 2)?, added(2, 0, 3));
-    assert_eq!(rt; store.count(), 3);
     assert_eq!(rt;
-        (store.get(0), store.get(1), store.get(2)),
-        (Some(&b'c'), Some(&b'd'), Some(&b'e'))
+        store.add_batch(4, list(alloc, b"e")?, 2),
+        Ok(added(4, 0, 0))
     );
+    assert_eq!(rt;
+        store.add_batch(0, list(alloc, b"")?, 2),
+        Ok(added(0, 0, 0))
+    );
+    assert_eq!(rt; store.insert_index(), 6);
+    assert_eq!(rt;
+        store.add_batch(2, list(alloc, b"cd")?, 2),
+        Ok(added(2, 0, 3))
+    );
+    assert_eq!(rt; store.count(), 3);
     assert_eq!(rt; store.get(3), None);
     let batches = store.batches()?;
     let want = [Range { begin: 0, end: 2 }, Range { begin: 2, end: 3 }];
     assert_eq!(rt; batches.as_slice(), want.as_slice());
-    assert_eq!(rt; store.insert_index(), 6);
-    let results = store.into_results()?;
-    assert_eq!(rt; results.as_slice(), b"cde".as_slice());
     Ok(())
 }
 

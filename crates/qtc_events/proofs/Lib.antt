@@ -1,3 +1,3 @@
 pub mod Words
-pub mod Journals
+pub mod JournalLemmas
 pub mod Replays

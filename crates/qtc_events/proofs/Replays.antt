@@ -1,7 +1,6 @@
 -- What a late watcher is told.
-use Rattle.std.proofs.Common.{◌≡◌, ◌⊎◌, inl, inr, zero, suc, Bool, true, false, List, [], ◌∷◌, ◌++◌, Contains, IsTrue, if◌then◌else◌, refl, sym, subst, arith}
+use Rattle.std.proofs.Common.{◌≡◌, ℕ, ◌⊎◌, inl, inr, zero, suc, Bool, true, false, List, [], ◌∷◌, ◌++◌, Contains, IsTrue, if◌then◌else◌, refl, sym, subst, arith}
 use Rattle.std.proofs.lemmas.List.Elements.{Contains-append_left, Contains-append_right, Contains-append_cases}
-use Rattle.qtc_base.specs.declared.ranges.Range.{Range}
 use Rattle.qtc_events.specs.Flags.{Standing}
 use Rattle.qtc_events.specs.Replay.{told_where, suspension_told, ranges_told, replayed}
 use Rattle.qtc_events.specs.Laws.{ReplayNamesStanding}
@@ -20,10 +19,10 @@ contains_head x y xs (suc k, h, e) = inr (k, omega arith, e)
 contains_none : (y : Event) → Contains [] y → ⊥
 contains_none y (k, h, e) = absurd (omega arith)
 
-no_range : (ranges : List Range) (y : Event) → IsOfFlag y → Contains (ranges_told ranges) y → ⊥
+no_range : (ranges : List (ℕ × ℕ)) (y : Event) → IsOfFlag y → Contains (ranges_told ranges) y → ⊥
 no_range [] y h c = contains_none y c
 no_range (range ∷ ranges) y h c =
-    elim (contains_head (Ready range.begin range.end) y (ranges_told ranges) c) [
+    elim (contains_head (Ready range.0 range.1) y (ranges_told ranges) c) [
       | inl e ↦ subst (λ x. IsOfFlag x) (sym e) h
       | inr d ↦ no_range ranges y h d
     ]
@@ -37,7 +36,7 @@ told_stands true x h = (0, omega arith, refl)
 told_stands false x h = absurd (cc)
 
 -- where an event of a flag stands in the replay
-parts : (s : Standing) (ranges : List Range) (y : Event) → IsOfFlag y → Contains (replayed s ranges) y → Contains (told_where s.started Started) y ⊎ (Contains (suspension_told s) y ⊎ (Contains (told_where s.canceled Canceled) y ⊎ Contains (told_where s.finished Finished) y))
+parts : (s : Standing) (ranges : List (ℕ × ℕ)) (y : Event) → IsOfFlag y → Contains (replayed s ranges) y → Contains (told_where s.started Started) y ⊎ (Contains (suspension_told s) y ⊎ (Contains (told_where s.canceled Canceled) y ⊎ Contains (told_where s.finished Finished) y))
 parts s ranges y h c =
     let front = told_where s.started Started in
     let middle = front ++ ranges_told ranges in
@@ -57,19 +56,19 @@ parts s ranges y h c =
     ]
 
 -- and back
-of_started : (s : Standing) (ranges : List Range) (y : Event) → Contains (told_where s.started Started) y → Contains (replayed s ranges) y
+of_started : (s : Standing) (ranges : List (ℕ × ℕ)) (y : Event) → Contains (told_where s.started Started) y → Contains (replayed s ranges) y
 of_started s ranges y c =
     Contains-append_left _ _ y (Contains-append_left _ _ y (Contains-append_left _ _ y (Contains-append_left _ _ y c)))
 
-of_suspension : (s : Standing) (ranges : List Range) (y : Event) → Contains (suspension_told s) y → Contains (replayed s ranges) y
+of_suspension : (s : Standing) (ranges : List (ℕ × ℕ)) (y : Event) → Contains (suspension_told s) y → Contains (replayed s ranges) y
 of_suspension s ranges y c =
     Contains-append_left _ _ y (Contains-append_left _ _ y (Contains-append_right (told_where s.started Started ++ ranges_told ranges) _ y c))
 
-of_canceled : (s : Standing) (ranges : List Range) (y : Event) → Contains (told_where s.canceled Canceled) y → Contains (replayed s ranges) y
+of_canceled : (s : Standing) (ranges : List (ℕ × ℕ)) (y : Event) → Contains (told_where s.canceled Canceled) y → Contains (replayed s ranges) y
 of_canceled s ranges y c =
     Contains-append_left _ _ y (Contains-append_right (told_where s.started Started ++ ranges_told ranges ++ suspension_told s) _ y c)
 
-of_finished : (s : Standing) (ranges : List Range) (y : Event) → Contains (told_where s.finished Finished) y → Contains (replayed s ranges) y
+of_finished : (s : Standing) (ranges : List (ℕ × ℕ)) (y : Event) → Contains (told_where s.finished Finished) y → Contains (replayed s ranges) y
 of_finished s ranges y c =
     Contains-append_right (told_where s.started Started ++ ranges_told ranges ++ suspension_told s ++ told_where s.canceled Canceled) _ y c
 
@@ -95,7 +94,7 @@ suspending_stands s h =
     ]
 
 -- each part names its own event alone
-named : (s : Standing) (ranges : List Range) (y : Event) → IsOfFlag y → Contains (replayed s ranges) y → (IsTrue s.started × (Started ≡ y)) ⊎ ((IsTrue s.suspended × (Suspended ≡ y)) ⊎ ((IsTrue s.suspending × (s.suspended ≡ false) × (Suspending ≡ y)) ⊎ ((IsTrue s.canceled × (Canceled ≡ y)) ⊎ (IsTrue s.finished × (Finished ≡ y)))))
+named : (s : Standing) (ranges : List (ℕ × ℕ)) (y : Event) → IsOfFlag y → Contains (replayed s ranges) y → (IsTrue s.started × (Started ≡ y)) ⊎ ((IsTrue s.suspended × (Suspended ≡ y)) ⊎ ((IsTrue s.suspending × (s.suspended ≡ false) × (Suspending ≡ y)) ⊎ ((IsTrue s.canceled × (Canceled ≡ y)) ⊎ (IsTrue s.finished × (Finished ≡ y)))))
 named s ranges y h c =
     elim (parts s ranges y h c) [
       | inl d ↦ inl (told_gives s.started Started y d)
@@ -108,19 +107,19 @@ named s ranges y h c =
       ]
     ]
 
-started_named : (s : Standing) (ranges : List Range) → Contains (replayed s ranges) Started → IsTrue s.started
+started_named : (s : Standing) (ranges : List (ℕ × ℕ)) → Contains (replayed s ranges) Started → IsTrue s.started
 started_named s ranges c = let n = named s ranges Started tt c in grind arith
 
-suspended_named : (s : Standing) (ranges : List Range) → Contains (replayed s ranges) Suspended → IsTrue s.suspended
+suspended_named : (s : Standing) (ranges : List (ℕ × ℕ)) → Contains (replayed s ranges) Suspended → IsTrue s.suspended
 suspended_named s ranges c = let n = named s ranges Suspended tt c in grind arith
 
-suspending_named : (s : Standing) (ranges : List Range) → Contains (replayed s ranges) Suspending → IsTrue s.suspending × (s.suspended ≡ false)
+suspending_named : (s : Standing) (ranges : List (ℕ × ℕ)) → Contains (replayed s ranges) Suspending → IsTrue s.suspending × (s.suspended ≡ false)
 suspending_named s ranges c = let n = named s ranges Suspending tt c in (grind arith, grind arith)
 
-canceled_named : (s : Standing) (ranges : List Range) → Contains (replayed s ranges) Canceled → IsTrue s.canceled
+canceled_named : (s : Standing) (ranges : List (ℕ × ℕ)) → Contains (replayed s ranges) Canceled → IsTrue s.canceled
 canceled_named s ranges c = let n = named s ranges Canceled tt c in grind arith
 
-finished_named : (s : Standing) (ranges : List Range) → Contains (replayed s ranges) Finished → IsTrue s.finished
+finished_named : (s : Standing) (ranges : List (ℕ × ℕ)) → Contains (replayed s ranges) Finished → IsTrue s.finished
 finished_named s ranges c = let n = named s ranges Finished tt c in grind arith
 
 pub replay_names_standing : ReplayNamesStanding

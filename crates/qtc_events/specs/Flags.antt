@@ -23,9 +23,8 @@ pub record Standing : Type 0 where
   pub throttled : Bool
   pub pending : Bool
 
--- what a new future has
-abbrev pub new_flags : Standing
-new_flags = record {
+abbrev pub no_flags : Standing
+no_flags = record {
   running = false;
   started = false;
   finished = false;
@@ -33,8 +32,12 @@ new_flags = record {
   suspending = false;
   suspended = false;
   throttled = false;
-  pending = true;
+  pending = false;
 }
+
+-- what a new future has
+abbrev pub new_flags : Standing
+new_flags = record no_flags { pending = true }
 
 abbrev pub stands : Standing → Flag → Bool
 stands s Running = s.running
@@ -60,6 +63,10 @@ put b s Pending = record s { pending = b }
 abbrev pub put_all : Bool → Standing → List Flag → Standing
 put_all b s flags = fold (put b) s flags
 
+-- this flag and no other
+abbrev pub just : Flag → Standing
+just flag = put true no_flags flag
+
 -- the bit of a place stands in a word
 abbrev pub has_bit : ℕ → ℕ → Bool
 has_bit word place = bit_at word place == 1
@@ -83,7 +90,13 @@ weighed b weight = if b then weight else 0
 
 -- the word that shows these flags
 abbrev pub word_of : Standing → ℕ
-word_of s = weighed s.running 1 + weighed s.started 2 + weighed s.finished 4 + weighed s.canceled 8 + weighed s.suspending 16 + weighed s.suspended 32 + weighed s.throttled 64 + weighed s.pending 128
+word_of s =
+    weighed s.running 1 + weighed s.started 2 + weighed s.finished 4 + weighed s.canceled 8
+    + weighed s.suspending 16 + weighed s.suspended 32 + weighed s.throttled 64 + weighed s.pending 128
+
+-- how many words there are
+abbrev pub word_count : ℕ
+word_count = 256
 
 -- with those of `clears` cleared, and then those of `sets` set
 abbrev pub turned : Bool → Bool → Bool → Bool

@@ -1,6 +1,6 @@
-ghost use Rattle.std.specs.Prelude.{◌≡◌, [], ◌∷◌, ◌++◌, OnOk, OnErr, IfOk, take, length};
+ghost use Rattle.std.specs.Prelude.{◌≡◌, [], ◌∷◌, ◌++◌, map, OnOk, OnErr, IfOk, take, length};
 ghost use Rattle.qtc_events.specs.Flags.{flags_in};
-ghost use Rattle.qtc_events.specs.Replay.{replayed, told_where};
+ghost use Rattle.qtc_events.specs.Replay.{bounds_of, replayed, told_where};
 ghost use Rattle.qtc_events.specs.declared.events.Event.TheVariants.{Ready};
 ghost use Rattle.qtc_events.specs.Text.{event_line};
 
@@ -42,7 +42,7 @@ fn tell_where(stands: bool, event: Event, events: &mut List<Event>) -> Result<()
 /// one Ready for each range, Suspended or else Suspending, Canceled, Finished, each where it stands.
 /// (After Qt's QFutureWatcher.)
 pub fn replay(alloc: Global, flags: Flags, ready: &[Range]) -> Result<List<Event>, NoMemory>
-    ensures { IfOk result (λ events. events ≡ replayed (flags_in flags.bits) ready.now) }
+    ensures { IfOk result (λ events. events ≡ replayed (flags_in flags.bits) (map bounds_of ready.now)) }
 {
     let mut events = List::new(alloc);
     tell_where(flags.is_started(), Event::Started, &mut events)?;

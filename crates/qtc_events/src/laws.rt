@@ -1,6 +1,21 @@
 //! The laws of the table of calls, each the contract of a function with an empty body.
 
-ghost use Rattle.qtc_events.specs.Laws.{WordsAreFlags, FlagsStay, ThresholdsAct, EndsAreEnds, JournalsEnd, SuspensionIsOne, StartKeepsSuspension, ReplayNamesStanding};
+ghost use Rattle.qtc_events.specs.Flags.{Running, Started, Finished, Canceled, Suspending, Suspended, Throttled, Pending};
+ghost use Rattle.qtc_events.specs.Laws.{IsWordOf, WordsAreFlags, FlagsStay, ThresholdsAct, EndsAreEnds, JournalsEnd, SuspensionIsOne, StartKeepsSuspension, ReplayNamesStanding};
+
+use crate::Flags;
+
+/// Each of the eight words shows its own flag and no other.
+pub fn flags_have_words()
+    ensures running { IsWordOf Running Flags.RUNNING }
+    ensures started { IsWordOf Started Flags.STARTED }
+    ensures finished { IsWordOf Finished Flags.FINISHED }
+    ensures canceled { IsWordOf Canceled Flags.CANCELED }
+    ensures suspending { IsWordOf Suspending Flags.SUSPENDING }
+    ensures suspended { IsWordOf Suspended Flags.SUSPENDED }
+    ensures throttled { IsWordOf Throttled Flags.THROTTLED }
+    ensures pending { IsWordOf Pending Flags.PENDING }
+{}
 
 /// A word below 256 and the flags that it shows determine each other.
 pub fn words_are_flags()

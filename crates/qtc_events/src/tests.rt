@@ -1,3 +1,5 @@
+ghost use Rattle.std.specs.Prelude.{◌≡◌};
+
 use crate::{
     Call, Entry, Event, Flags, Reached, Thresholds, accounted_after, accounted_of, event_text,
     flags_after, flags_of, replay,
@@ -5,12 +7,46 @@ use crate::{
 use qtc_base::{Bytes, Range};
 use std::test::Fail;
 
-fn entry(call: Call, reached: Reached) -> Entry {
+fn entry(call: Call, reached: Reached) -> Entry
+    ensures { result.call ≡ call }
+{
     Entry {
         caller: 0,
         call,
         reached,
     }
+}
+
+/// The first use of the README.
+#[test]
+fn a_journal_is_read(rt: HostRuntime) -> Result<(), Fail> {
+    let report = Call::Report {
+        begin: 0,
+        kept: 2,
+        total: 2,
+    };
+    let reported = entry(report, Reached::Nothing);
+    let journal = [
+        entry(Call::Start, Reached::Nothing),
+        reported,
+        entry(Call::Cancel, Reached::Nothing),
+        entry(Call::Finish, Reached::Nothing),
+    ];
+    let flags = flags_of(&journal);
+    assert_eq!(rt; flags.bits, 14);
+    assert_eq!(rt;
+        reported.posts(false, 0, 2),
+        (Some(Event::Ready(0, 2)), None)
+    );
+    let told = replay(rt.alloc(), flags, &[Range { begin: 0, end: 2 }])?;
+    let want = [
+        Event::Started,
+        Event::Ready(0, 2),
+        Event::Canceled,
+        Event::Finished,
+    ];
+    assert_eq!(rt; told.as_slice(), want.as_slice());
+    Ok(())
 }
 
 /// Each journal of effective calls, with the flags that it leaves.
@@ -78,10 +114,26 @@ fn calls_have_effects(rt: HostRuntime) {
         "no suspension stands"
     );
     assert!(rt; Call::Finish.has_effect(canceled) && !Call::Finish.has_effect(Flags { bits: 14 }));
-    assert_eq!(rt; report(2).event(5, 6), Some(Event::Ready(5, 6)));
-    assert_eq!(rt; report(2).event(5, 5), None);
-    assert_eq!(rt; Call::Cancel.event(0, 0), Some(Event::Canceled));
-    assert_eq!(rt; Reached::Suspend.event(), Some(Event::Suspending));
+}
+
+#[test]
+fn entries_post_their_events(rt: HostRuntime) {
+    let report = Call::Report {
+        begin: 5,
+        kept: 1,
+        total: 2,
+    };
+    let plain = entry(report, Reached::Nothing);
+    assert_eq!(rt; plain.posts(false, 0, 3), (Some(Event::Ready(5, 7)), None));
+    assert_eq!(rt; plain.posts(true, 0, 3), (Some(Event::Ready(0, 3)), None));
+    assert_eq!(rt; plain.posts(true, 3, 3), (None, None));
+    let last = entry(report, Reached::Cancel);
+    let both = (Some(Event::Ready(5, 7)), Some(Event::Canceled));
+    assert_eq!(rt; last.posts(false, 0, 0), both);
+    let account = entry(Call::Account { total: 1 }, Reached::Suspend);
+    assert_eq!(rt; account.posts(false, 0, 0), (None, Some(Event::Suspending)));
+    let fail = entry(Call::Fail { index: 7 }, Reached::Nothing);
+    assert_eq!(rt; fail.posts(false, 0, 0), (Some(Event::Canceled), None));
 }
 
 #[test]

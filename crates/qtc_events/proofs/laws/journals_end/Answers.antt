@@ -1,4 +1,4 @@
-use Rattle.qtc_events.proofs.Journals.{journals_end}
+use Rattle.qtc_events.proofs.JournalLemmas.{journals_end}
 use Rattle.qtc_events.proofs.laws.journals_end.Goals as goal
 
 pub returns : goal.returns

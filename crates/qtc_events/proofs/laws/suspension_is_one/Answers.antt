@@ -1,4 +1,4 @@
-use Rattle.qtc_events.proofs.Journals.{suspension_is_one}
+use Rattle.qtc_events.proofs.JournalLemmas.{suspension_is_one}
 use Rattle.qtc_events.proofs.laws.suspension_is_one.Goals as goal
 
 pub returns : goal.returns

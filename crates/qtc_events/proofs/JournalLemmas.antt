@@ -7,9 +7,9 @@ use Rattle.qtc_events.specs.Journal.{after_entry, entry_has_effect, acts_with_ef
 use Rattle.qtc_events.specs.Laws.{JournalsEnd, SuspensionIsOne}
 use Rattle.qtc_events.specs.declared.calls.Call.{Call}
 use Rattle.qtc_events.specs.declared.calls.Call.TheVariants.{Suspend, Cancel, Finish}
-use Rattle.qtc_events.specs.declared.calls.Reached.{Reached}
-use Rattle.qtc_events.specs.declared.calls.Reached.TheVariants.{Nothing, Suspend as ReachedSuspend, Cancel as ReachedCancel}
-use Rattle.qtc_events.specs.declared.calls.Entry.{Entry}
+use Rattle.qtc_events.specs.declared.entries.Reached.{Reached}
+use Rattle.qtc_events.specs.declared.entries.Reached.TheVariants.{Nothing, Suspend as ReachedSuspend, Cancel as ReachedCancel}
+use Rattle.qtc_events.specs.declared.entries.Entry.{Entry}
 
 -- ---- one call
 cancel_stays : (s : Standing) (call : Call) (reached : Reached) → IsTrue s.canceled → IsTrue (after s call reached).canceled

@@ -1,0 +1,7 @@
+pub mod Appending
+pub mod Rooms
+pub mod Orders
+pub mod OneMore
+pub mod Plain
+pub mod Failing
+pub mod Reporting

@@ -1,0 +1,13 @@
+//! The future of one thread: results as they come, the calls that steer it, and what a watcher is told. All that
+//! threads later share of a future is a step of this object.
+#![tactic(auto)]
+
+mod book;
+mod future_core;
+mod log;
+mod replies;
+mod requests;
+
+pub use future_core::FutureCore;
+pub use replies::{Failure, Outcome, Reply};
+pub use requests::{Answer, Asked, Request};

@@ -5,3 +5,4 @@ pub mod OneMore
 pub mod Plain
 pub mod Failing
 pub mod Reporting
+pub mod Modes

@@ -7,3 +7,4 @@ pub mod Answering
 pub mod Legal
 pub mod Core
 pub mod Ends
+pub mod Runs

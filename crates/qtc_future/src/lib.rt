@@ -7,7 +7,9 @@ mod future_core;
 mod log;
 mod replies;
 mod requests;
+mod runs;
 
 pub use future_core::FutureCore;
 pub use replies::{Failure, Outcome, Reply};
 pub use requests::{Answer, Asked, Request};
+pub use runs::{answer, run};

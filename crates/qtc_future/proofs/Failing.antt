@@ -1,5 +1,5 @@
 -- A fail, which is the only one: none is in a journal that leaves Canceled unset.
-use Rattle.std.proofs.Common.{◌≡◌, ℕ, Bool, true, false, List, [], ◌∷◌, ◌++◌, Option, None, Some, fold, All, IsTrue, refl, ap, sym, ◌∙◌, subst, append-nil, arith}
+use Rattle.std.proofs.Common.{◌≡◌, ℕ, false, List, [], ◌∷◌, ◌++◌, Option, None, Some, fold, IsTrue, refl, ap, sym, ◌∙◌, subst, append-nil, arith}
 use Rattle.std.specs.Option.{option_or}
 use Rattle.std.proofs.lemmas.List.{map-append}
 use Rattle.std.proofs.lemmas.List.Elements.{All-nil}
@@ -15,7 +15,7 @@ use Rattle.qtc_store.specs.Stored.{Stored}
 use Rattle.qtc_store.specs.Adds.{store_of}
 use Rattle.qtc_store.specs.declared.batch.Batch.{Batch}
 use Rattle.qtc_future.specs.Booked.{Booked, HasRoom}
-use Rattle.qtc_future.specs.Future.{Future, Logged, reports_of, results_of, flags_of, failure_of_call, failure_in, failure_of}
+use Rattle.qtc_future.specs.Future.{Future, Logged, reports_of, results_of, flags_of, failure_of_call, failure_in}
 use Rattle.qtc_future.specs.Steps.{logged_by, reached_by, with_call}
 use Rattle.qtc_future.specs.Legal.{IsAcceptable, IsEffective}
 use Rattle.qtc_future.specs.Core.{call_read, calls_read, item_read, seen, IsKept}
@@ -63,8 +63,8 @@ pub seen_failed : {V : Type 0} (thresholds : Thresholds) (booked booked' : Booke
 seen_failed thresholds booked booked' store failure entry index item is still grown =
     let failure' : Option Failure = Some (record { index = index; item = item }) in
     let last : call_read store.batches failure' entry ≡ carrying entry [] item =
-        ap (λ (c : Call). record { entry = record { caller = entry.caller; call = c; reached = entry.reached }; values = (call_read store.batches failure' (record { caller = entry.caller; call = c; reached = entry.reached })).values; item = item_read failure' c }) is
-        ∙ ap (λ (c : Call). carrying (record { caller = entry.caller; call = c; reached = entry.reached }) [] item) (sym is) in
+    ap (λ (c : Call). record { entry = record { caller = entry.caller; call = c; reached = entry.reached }; values = (call_read store.batches failure' (record { caller = entry.caller; call = c; reached = entry.reached })).values; item = item_read failure' c }) is
+    ∙ ap (λ (c : Call). carrying (record { caller = entry.caller; call = c; reached = entry.reached }) [] item) (sym is) in
     ap (λ calls. record { filter = store.filter; thresholds = thresholds; calls = calls })
     (ap (calls_read store.batches failure') grown
     ∙ map-append (call_read store.batches failure') booked.journal (entry ∷ [])
@@ -85,6 +85,7 @@ kept_failed {V = V} thresholds booked booked' store failure caller reached index
       effect = subst (λ (s : Standing). IsTrue (has_effect s (Fail index))) (sym flags) effect;
       reached = reaches;
       batch = All-nil (IsAcceptable (results_of future));
+      carries = refl;
     } in
     subst (λ (f : Future V). IsKept f booked' store failure') (sym (seen_failed thresholds booked booked' store failure entry index item refl still grown))
     (kept_with future booked booked' store store failure failure' logged kept effective (kept.results ∙ ap (store_of store.filter) (sym reports)) (sym failed) told room)

@@ -6,3 +6,7 @@ pub mod Plain
 pub mod Failing
 pub mod Reporting
 pub mod Modes
+pub mod Growing
+pub mod Legality
+pub mod Staying
+pub mod Found

@@ -7,7 +7,7 @@ use Rattle.qtc_store.specs.Batches.{end_of, least_covered, most_end}
 use Rattle.qtc_store.specs.Stored.{batch_with, goes_at}
 use Rattle.qtc_store.specs.declared.batch.Batch.{Batch}
 use Rattle.qtc_future.specs.Future.{Future, results_of, flags_of}
-use Rattle.qtc_future.specs.Steps.{Stepped, Effect, PastEnd, Dropped, Counted, accepted, by_row, counted, dropped, has_ended, judged, logged_by, offered, stays, step, with_call, with_report, reached_by, report_of}
+use Rattle.qtc_future.specs.Steps.{Stepped, Effect, PastEnd, Counted, accepted, by_row, dropped, has_ended, judged, logged_by, offered, stays, step, with_call, reached_by, report_of}
 use Rattle.qtc_future.specs.declared.requests.Request.{Request}
 use Rattle.qtc_future.specs.declared.requests.Request.TheVariants.{Start, ReportBatch, AddResult, Account, SetSuspended, ReportSuspended, Cancel, Fail, Finish}
 

@@ -1,18 +1,16 @@
 -- A future with one call more.
-use Rattle.std.proofs.Common.{◌≡◌, ℕ, Bool, List, [], ◌∷◌, ◌++◌, Option, None, Some, map, refl, ap, sym, ◌∙◌, subst, append_assoc, append-nil}
+use Rattle.std.proofs.Common.{◌≡◌, Bool, List, [], ◌∷◌, ◌++◌, Option, None, Some, refl, ap, sym, ◌∙◌, subst, append_assoc, append-nil}
 use Rattle.std.specs.Option.{option_or}
-use Rattle.std.specs.List.{flat_map}
 use Rattle.std.proofs.lemmas.List.{map-append}
 use Rattle.std.proofs.lemmas.Grind.{flat_map-append}
 use Rattle.qtc_events.specs.declared.entries.Entry.{Entry}
-use Rattle.qtc_events.specs.declared.events.Event.{Event}
 use Rattle.qtc_store.specs.Stored.{Stored}
 use Rattle.qtc_store.specs.declared.batch.Batch.{Batch}
 use Rattle.qtc_future.specs.Booked.{Booked, HasRoom}
-use Rattle.qtc_future.specs.Future.{Future, Logged, entries_of, batches_in, reports_of, results_of, failure_of_call, failure_in, failure_of, posted_by, posted, events_of}
+use Rattle.qtc_future.specs.Future.{Future, Logged, entries_of, batches_in, reports_of, results_of, failure_of_call, failure_in, failure_of, posted_by, posted}
 use Rattle.qtc_future.specs.Steps.{with_call}
-use Rattle.qtc_future.specs.Legal.{IsEffective, AreEffective, IsLegal}
-use Rattle.qtc_future.specs.Core.{call_read, calls_read, IsKept}
+use Rattle.qtc_future.specs.Legal.{IsEffective, AreEffective}
+use Rattle.qtc_future.specs.Core.{calls_read, IsKept}
 use Rattle.qtc_future.specs.declared.replies.Failure.{Failure}
 
 pub entries-push : {V : Type 0} (calls : List (Logged V)) (logged : Logged V) → entries_of (calls ++ logged ∷ []) ≡ entries_of calls ++ logged.entry ∷ []

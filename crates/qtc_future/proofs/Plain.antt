@@ -1,11 +1,11 @@
 -- A call that carries nothing.
-use Rattle.std.proofs.Common.{◌≡◌, ℕ, ◌+◌, ◌≤◌, min, Bool, true, false, ◌&&◌, nat_lt, nat_le, List, [], ◌∷◌, ◌++◌, Option, None, Some, All, IsTrue, refl, ap, sym, ◌∙◌, subst, append-nil, option_to_list, if◌then◌else◌, arith}
+use Rattle.std.proofs.Common.{◌≡◌, ℕ, Bool, true, false, List, [], ◌∷◌, ◌++◌, Option, None, Some, All, IsTrue, refl, ap, sym, ◌∙◌, subst, append-nil, option_to_list, if◌then◌else◌, arith}
 use Rattle.std.specs.Option.{option_or}
 use Rattle.std.proofs.lemmas.List.{map-append}
 use Rattle.std.proofs.lemmas.List.Elements.{All-nil}
 use Rattle.std.proofs.lemmas.Bool.Decides.{nat_tests}
 use Rattle.qtc_events.specs.Flags.{Standing}
-use Rattle.qtc_events.specs.Calls.{row, has_effect, acts_as, posts_of_acting, add_accounted, most_accounted, reaches, reached_of}
+use Rattle.qtc_events.specs.Calls.{row, has_effect, acts_as, posts_of_acting, add_accounted, reaches, reached_of}
 use Rattle.qtc_events.specs.Journal.{flags_after_all, posts_of_entry}
 use Rattle.qtc_events.specs.declared.calls.Call.{Call}
 use Rattle.qtc_events.specs.declared.calls.Call.TheVariants.{Report, Fail}
@@ -17,10 +17,10 @@ use Rattle.qtc_store.specs.Stored.{Stored}
 use Rattle.qtc_store.specs.Adds.{store_of}
 use Rattle.qtc_store.specs.declared.batch.Batch.{Batch}
 use Rattle.qtc_future.specs.Booked.{Booked, HasRoom}
-use Rattle.qtc_future.specs.Future.{Future, Logged, batch_of, batches_in, reports_of, results_of, flags_of, accounted_of, failure_of_call, failure_in, failure_of, posted_by}
+use Rattle.qtc_future.specs.Future.{Future, Logged, batch_of, batches_in, reports_of, results_of, flags_of, accounted_of, failure_of_call, failure_in, posted_by}
 use Rattle.qtc_future.specs.Steps.{Effect, by_row, logged_by, reached_by, stays, with_call}
 use Rattle.qtc_future.specs.Answering.{IsStep}
-use Rattle.qtc_future.specs.Legal.{IsAcceptable, IsEffective}
+use Rattle.qtc_future.specs.Legal.{Carries, IsAcceptable, IsEffective}
 use Rattle.qtc_future.specs.Core.{values_read, item_read, call_read, calls_read, seen, IsKept}
 use Rattle.qtc_future.specs.Ends.{is_free, is_plain}
 use Rattle.qtc_future.specs.declared.replies.Failure.{Failure}
@@ -45,6 +45,11 @@ plain_values batches _ h = refl
 plain_item : (failure : Option Failure) (call : Call) → IsTrue (is_plain call) → item_read failure call ≡ []
 plain_item failure (Fail index) h = absurd (cc)
 plain_item failure _ h = refl
+
+pub plain_carries : (V : Type 0) (call : Call) → IsTrue (is_plain call) → Carries {V = V} call [] []
+plain_carries V (Report begin kept total) h = absurd (cc)
+plain_carries V (Fail index) h = absurd (cc)
+plain_carries V _ h = (refl, refl)
 
 pub free_plain : (call : Call) → IsTrue (is_free call) → IsTrue (is_plain call)
 free_plain call h = grind arith
@@ -101,6 +106,7 @@ kept_plain {V = V} thresholds booked booked' store failure entry kept h effect r
       effect = subst (λ (s : Standing). IsTrue (has_effect s entry.call)) (sym flags) effect;
       reached = reached;
       batch = subst (λ bs. All (IsAcceptable (results_of future)) bs) (sym none) (All-nil (IsAcceptable (results_of future)));
+      carries = plain_carries V entry.call h;
     } in
     let posts : posts_of_entry store.filter entry 0 0 ≡ posted_by store.filter (reports_of future.calls) logged = ap (λ own. own_first own entry) (plain_posts entry.call store.filter 0 0 _ _ h) in
     subst (λ (f : Future V). IsKept f booked' store failure) (sym (seen_plain thresholds booked booked' store failure entry h grown))

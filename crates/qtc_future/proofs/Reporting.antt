@@ -1,5 +1,5 @@
 -- A report that the store took.
-use Rattle.std.proofs.Common.{◌≡◌, ◌≢◌, ℕ, zero, suc, ◌+◌, ◌<◌, ◌≤◌, Bool, true, false, ◌||◌, ◌&&◌, nat_lt, nat_le, nat_eq, cond, List, [], ◌∷◌, ◌++◌, length, Option, None, Some, Result, Ok, Err, IfOk, fold, All, IsTrue, inl, inr, refl, ap, sym, ◌∙◌, subst, append-nil, arith}
+use Rattle.std.proofs.Common.{◌≡◌, ℕ, zero, suc, ◌+◌, ◌<◌, Bool, true, false, ◌||◌, ◌&&◌, nat_lt, nat_le, nat_eq, List, [], ◌∷◌, ◌++◌, length, Option, None, Some, Result, IfOk, All, IsTrue, inl, inr, refl, ap, sym, ◌∙◌, subst, arith}
 use Rattle.std.specs.Option.{option_or}
 use Rattle.std.specs.List.{list_any, find, range_with_len}
 use Rattle.std.proofs.lemmas.Bool.{cases_lt}
@@ -15,7 +15,7 @@ use Rattle.qtc_events.specs.declared.calls.Call.TheVariants.{Report}
 use Rattle.qtc_events.specs.declared.entries.Entry.{Entry}
 use Rattle.qtc_events.specs.declared.entries.Reached.{Reached}
 use Rattle.qtc_events.specs.declared.thresholds.Thresholds.{Thresholds}
-use Rattle.qtc_store.specs.Batches.{covers, is_covered, least_covered, placed, in_order, end_of, most_end, IsWhole}
+use Rattle.qtc_store.specs.Batches.{covers, is_covered, least_covered, placed, end_of, most_end, IsWhole}
 use Rattle.qtc_store.specs.Stored.{Stored, refusal, refusal_of, count_of, with_batch, NothingRefuses}
 use Rattle.qtc_store.specs.Adds.{store_of}
 use Rattle.qtc_store.specs.declared.batch.Added.{Added}
@@ -23,8 +23,8 @@ use Rattle.qtc_store.specs.declared.batch.AddFault.{AddFault}
 use Rattle.qtc_store.specs.declared.batch.AddFault.TheVariants.{Taken as FaultTaken, PastEnd as FaultPastEnd, Memory}
 use Rattle.qtc_store.specs.declared.batch.Batch.{Batch}
 use Rattle.qtc_future.specs.Booked.{Booked, HasRoom}
-use Rattle.qtc_future.specs.Future.{Future, Logged, batch_of, batches_in, reports_of, results_of, flags_of, failure_in, failure_of}
-use Rattle.qtc_future.specs.Steps.{Stepped, Told, Accepted, Taken, PastEnd, accepted, told_by, with_report, judged, logged_by, reached_by, report_of, with_call}
+use Rattle.qtc_future.specs.Future.{Future, Logged, batch_of, batches_in, reports_of, results_of, flags_of, failure_in}
+use Rattle.qtc_future.specs.Steps.{Stepped, Accepted, Taken, PastEnd, accepted, told_by, with_report, judged, logged_by, reached_by, report_of, with_call}
 use Rattle.qtc_future.specs.Legal.{IsAcceptable, IsEffective, AreEffective}
 use Rattle.qtc_future.specs.Core.{values_in, values_read, call_read, calls_read, seen, IsKept}
 use Rattle.qtc_future.specs.Answering.{IsStep, refused_by}
@@ -40,7 +40,7 @@ use Rattle.qtc_future.proofs.Plain.{carrying}
 abbrev pub Covers : {V : Type 0} → Batch V → Type 0
 Covers batch = 0 < batch.total
 
-call_covers : {V : Type 0} (s : Standing) (call : Call) (values : List V) → IsTrue (has_effect s call) → All Covers (batch_of call values)
+pub call_covers : {V : Type 0} (s : Standing) (call : Call) (values : List V) → IsTrue (has_effect s call) → All Covers (batch_of call values)
 call_covers s (Report begin kept total) values h =
     All-cons Covers _ [] (let some : 0 < total = grind (arith, nat_tests) in some) (All-nil Covers)
 call_covers s _ values h = All-nil Covers
@@ -189,6 +189,7 @@ kept_report {V = V} thresholds booked booked' store failure caller b reached old
       effect = subst (λ (s : Standing). IsTrue (has_effect s (report_of b))) (sym flags) (report_has_effect (flags_after_all booked.journal) b.begin (length b.values) b.total going some);
       reached = reaches;
       batch = All-cons (IsAcceptable (results_of future)) b [] acceptable (All-nil (IsAcceptable (results_of future)));
+      carries = (refl, refl);
     } in
     let results : store_with store b ≡ results_of (with_call future logged) = results_with thresholds booked store failure logged b kept refl in
     let after : results_of (with_call future logged) ≡ store_of store.filter (reports_of future.calls ++ b ∷ []) = ap (λ (bs : List (Batch V)). store_of store.filter bs) (reports-push future.calls logged) in

@@ -1,5 +1,5 @@
 -- The room that is owed.
-use Rattle.std.proofs.Common.{◌≡◌, ℕ, ◌+◌, ◌≤◌, List, [], ◌∷◌, ◌++◌, length, refl, ap, sym, ◌∙◌, subst, arith}
+use Rattle.std.proofs.Common.{◌≡◌, ◌+◌, ◌≤◌, List, [], ◌∷◌, ◌++◌, length, ap, sym, ◌∙◌, subst, arith}
 use Rattle.qtc_events.specs.Flags.{Standing, new_flags}
 use Rattle.qtc_events.specs.Journal.{flags_after_all, after_entry}
 use Rattle.qtc_events.specs.declared.entries.Entry.{Entry}

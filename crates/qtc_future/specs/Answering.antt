@@ -27,7 +27,7 @@ is_idle _ = false
 
 -- the same of a call that may want memory: it then left the future as it was, and it never does where it is idle
 pub record IsTry {V T : Type 0} (old : Future V) (stepped : Stepped V) (told : T → Told)
-  (new : Future V) (result : Result T NoMemory) : Type 0 where
+    (new : Future V) (result : Result T NoMemory) : Type 0 where
   pub ok : IfOk result (λ answer. IsStep stepped new (told answer))
   pub err : OnErr result (new ≡ old)
   pub sure : IsTrue (is_idle stepped.told) → IsOk result

@@ -1,10 +1,9 @@
 -- What the future of one thread keeps, and the calls that this stands for. (Own.)
-use Rattle.std.specs.Prelude.{ℕ, ◌≡◌, ◌==◌, Bool, List, [], Option, None, Some, map}
+use Rattle.std.specs.Prelude.{ℕ, ◌≡◌, ◌==◌, List, [], Option, None, Some, map}
 use Rattle.std.specs.List.{find}
 use Rattle.qtc_events.specs.declared.calls.Call.{Call}
 use Rattle.qtc_events.specs.declared.calls.Call.TheVariants.{Report, Fail}
 use Rattle.qtc_events.specs.declared.entries.Entry.{Entry}
-use Rattle.qtc_events.specs.declared.events.Event.{Event}
 use Rattle.qtc_events.specs.declared.thresholds.Thresholds.{Thresholds}
 use Rattle.qtc_store.specs.Stored.{Stored}
 use Rattle.qtc_store.specs.declared.batch.Batch.{Batch}
@@ -51,7 +50,7 @@ seen thresholds booked store failure = record {
 
 -- what is kept is that of the future
 pub record IsKept {V : Type 0} (future : Future V) (booked : Booked) (store : Stored V) (failure : Option Failure)
-  : Type 0 where
+    : Type 0 where
   pub legal : IsLegal future
   pub results : store ≡ results_of future
   pub events : booked.events ≡ events_of future

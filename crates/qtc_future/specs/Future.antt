@@ -1,6 +1,6 @@
 -- A future as its callers see it: the calls that had an effect, one after the other. Its flags, its results, its events
 -- and all else that it tells are functions of these. (After QFutureInterface and QPromise; own.)
-use Rattle.std.specs.Prelude.{ℕ, Bool, List, [], ◌∷◌, ◌++◌, Option, None, Some, map, length}
+use Rattle.std.specs.Prelude.{ℕ, Bool, List, [], ◌∷◌, ◌++◌, Option, None, Some, map}
 use Rattle.std.specs.Option.{option_or}
 use Rattle.std.specs.List.{flat_map}
 use Rattle.qtc_events.specs.Flags.{Standing}
@@ -77,7 +77,7 @@ failure_of future = failure_in future.calls
 abbrev pub posted_by : {V : Type 0} → Bool → List (Batch V) → Logged V → List Event
 posted_by filter accepted logged =
     posts_of_entry filter logged.entry
-        (count_of (store_of filter accepted)) (count_of (store_of filter (accepted ++ batches_in logged)))
+    (count_of (store_of filter accepted)) (count_of (store_of filter (accepted ++ batches_in logged)))
 
 abbrev pub posted : {V : Type 0} → Bool → List (Batch V) → List (Logged V) → List Event
 posted filter accepted [] = []

@@ -8,3 +8,4 @@ pub mod Legal
 pub mod Core
 pub mod Ends
 pub mod Runs
+pub mod Laws

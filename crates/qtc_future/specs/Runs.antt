@@ -1,5 +1,5 @@
 -- Lists of calls on a new future. (Own.)
-use Rattle.std.specs.Prelude.{◌≡◌, ◌≤◌, Bool, true, false, List, [], ◌∷◌, ◌++◌, length, fold, map, IsSome}
+use Rattle.std.specs.Prelude.{◌≡◌, ◌≤◌, Bool, true, false, List, [], ◌∷◌, ◌++◌, length, fold, IsSome}
 use Rattle.qtc_future.specs.Future.{Future}
 use Rattle.qtc_future.specs.Steps.{Told, Effect, step, told_by}
 use Rattle.qtc_future.specs.declared.requests.Answer.{Answer}

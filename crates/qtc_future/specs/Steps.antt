@@ -1,5 +1,5 @@
 -- What one call on a future answers, and the future after it. (After QFutureInterface and QPromise; the table is own.)
-use Rattle.std.specs.Prelude.{ℕ, ◌≡◌, ◌+◌, ◌==◌, ◌||◌, nat_lt, Bool, if◌then◌else◌, List, [], ◌∷◌, ◌++◌, Option, None, Some, length, fold}
+use Rattle.std.specs.Prelude.{ℕ, ◌==◌, ◌||◌, nat_lt, Bool, if◌then◌else◌, List, [], ◌∷◌, ◌++◌, Option, None, Some, length}
 use Rattle.qtc_events.specs.Flags.{Standing, flags_in}
 use Rattle.qtc_events.specs.Calls.{has_effect, add_accounted, reached_of}
 use Rattle.qtc_events.specs.declared.calls.Call.{Call}
@@ -14,8 +14,6 @@ use Rattle.qtc_future.specs.declared.replies.Reply.{Reply}
 use Rattle.qtc_future.specs.declared.replies.Reply.TheVariants.{Accepted as ReplyAccepted, Counted as ReplyCounted, Dropped as ReplyDropped, Taken as ReplyTaken, PastEnd as ReplyPastEnd}
 use Rattle.qtc_future.specs.declared.requests.Request.{Request}
 use Rattle.qtc_future.specs.declared.requests.Request.TheVariants.{Start as AskStart, ReportBatch, AddResult, Account as AskAccount, SetSuspended, ReportSuspended as AskReportSuspended, Cancel as AskCancel, Fail as AskFail, Finish as AskFinish}
-use Rattle.qtc_future.specs.declared.requests.Answer.{Answer}
-use Rattle.qtc_future.specs.declared.requests.Answer.TheVariants.{Effect as AnswerEffect, Reply as AnswerReply}
 
 -- what a caller is told
 pub data Told : Type 0 where
@@ -40,7 +38,7 @@ stays future told = record { future = future; told = told }
 abbrev pub reached_by : {V : Type 0} → Future V → Call → Reached
 reached_by future call =
     reached_of future.thresholds.cancel_after future.thresholds.suspend_after (flags_of future)
-        (accounted_of future) (add_accounted (accounted_of future) call)
+    (accounted_of future) (add_accounted (accounted_of future) call)
 
 -- the call with what it reaches and what it carries
 abbrev pub logged_by : {V : Type 0} → Future V → ℕ → Call → List V → List ℕ → Logged V
@@ -81,7 +79,7 @@ abbrev pub accepted : {V : Type 0} → Future V → ℕ → Batch V → Stepped 
 accepted future caller batch = let after = with_report future caller batch in record {
   future = after;
   told =
-    Accepted
+      Accepted
       (record {
         begin = batch.begin;
         old_count = count_of (results_of future);

@@ -27,18 +27,14 @@ impl Model for Book {
 
     ghost Value = { Booked };
 
-    ghost view = {
-        λ s. record {
-            journal = s.journal.items;
-            events = s.events.items;
-            entry_room = s.journal.room;
-            event_room = s.events.room;
-        }
-    };
+    ghost view = { λ s. record {
+      journal = s.journal.items;
+      events = s.events.items;
+      entry_room = s.journal.room;
+      event_room = s.events.room;
+    } };
 
-    ghost invariant = {
-        λ s. (flags_in s.flags.bits ≡ flags_after_all s.journal.items) × (s.accounted ≡ accounted_by s.journal.items)
-    };
+    ghost invariant = { λ s. (flags_in s.flags.bits ≡ flags_after_all s.journal.items) × (s.accounted ≡ accounted_by s.journal.items) };
 }
 
 impl Book {
@@ -106,13 +102,9 @@ impl Book {
     /// Enters an effective call, with what it posts. There is room for both, and for what is owed after it.
     pub(crate) fn enter(&mut self, filter: bool, entry: Entry, old_count: u32, new_count: u32)
         requires range { range_end entry.call < 2 ^ 32 }
-        requires entry {
-            owed (after_entry (flags_after_all self.old.journal) entry) + 1 ≤ self.old.entry_room
-        }
-        requires posts {
-            owed (after_entry (flags_after_all self.old.journal) entry)
-            + length (posts_of_entry filter entry old_count new_count) ≤ self.old.event_room
-        }
+        requires entry { owed (after_entry (flags_after_all self.old.journal) entry) + 1 ≤ self.old.entry_room }
+        requires posts { owed (after_entry (flags_after_all self.old.journal) entry)
+            + length (posts_of_entry filter entry old_count new_count) ≤ self.old.event_room }
         ensures journal { self.new.journal ≡ self.old.journal ++ entry ∷ [] }
         ensures events { self.new.events ≡ self.old.events ++ posts_of_entry filter entry old_count new_count }
         ensures room { HasRoom self.new }

@@ -127,11 +127,7 @@ impl<V> FutureCore<V> {
         ensures { IfOk result (λ events. events ≡ replay_of self.now) }
     {
         let ranges = self.store.batches()?;
-        replay(
-            self.book.allocator(),
-            self.book.flags(),
-            ranges.as_slice(),
-        )
+        replay(self.book.allocator(), self.book.flags(), ranges.as_slice())
     }
 
     /// What the future comes to as it stands: its failure, else that it was canceled, else its results from 0 on
@@ -349,11 +345,9 @@ impl<V: Drop> FutureCore<V> {
         requires few { length values ≤ total }
         requires whole { self.old.filter ≡ false → length values ≡ total }
         requires going { has_ended self.old ≡ false }
-        ensures ok {
-            let batch = batch_with begin values total in
+        ensures ok { let batch = batch_with begin values total in
             let covered = least_covered (results_of self.old).batches begin total in
-            IfOk result (λ reply. IsStep (judged self.old caller batch covered) self.new (told_by reply))
-        }
+            IfOk result (λ reply. IsStep (judged self.old caller batch covered) self.new (told_by reply)) }
         ensures err { OnErr result (self.new ≡ self.old) }
     {
         let call = Call::Report {

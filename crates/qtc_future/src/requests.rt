@@ -5,13 +5,27 @@ use qtc_base::{Bytes, List};
 #[derive(Drop)]
 pub enum Request<V> {
     Start,
-    ReportBatch { begin: u32, values: List<V>, total: u32 },
-    AddResult { index: Option<u32>, value: V },
-    Account { total: u32 },
-    SetSuspended { on: bool },
+    ReportBatch {
+        begin: u32,
+        values: List<V>,
+        total: u32,
+    },
+    AddResult {
+        index: Option<u32>,
+        value: V,
+    },
+    Account {
+        total: u32,
+    },
+    SetSuspended {
+        on: bool,
+    },
     ReportSuspended,
     Cancel,
-    Fail { index: u32, item: Bytes },
+    Fail {
+        index: u32,
+        item: Bytes,
+    },
     Finish,
 }
 

@@ -47,14 +47,10 @@ pub fn run<V: Drop>(
     calls: Vec<Asked<V>>,
 ) -> Result<(FutureCore<V>, List<Answer>), NoMemory>
     requires { All (IsAskable filter) calls.items }
-    ensures future {
-        let run = run_of (new_future filter cancel_after suspend_after) calls.items in
-        IfOk result (λ made. made.0 ≡ run.future)
-    }
-    ensures told {
-        let run = run_of (new_future filter cancel_after suspend_after) calls.items in
-        IfOk result (λ made. map told_of made.1 ≡ run.told)
-    }
+    ensures future { let run = run_of (new_future filter cancel_after suspend_after) calls.items in
+        IfOk result (λ made. made.0 ≡ run.future) }
+    ensures told { let run = run_of (new_future filter cancel_after suspend_after) calls.items in
+        IfOk result (λ made. map told_of made.1 ≡ run.told) }
 {
     let mut core = FutureCore::new(alloc, filter, cancel_after, suspend_after)?;
     let mut answers = List::new(alloc);

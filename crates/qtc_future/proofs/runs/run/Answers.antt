@@ -1,9 +1,9 @@
-use Rattle.std.proofs.Common.{rules, ◌≡◌, List, [], ◌∷◌, ◌++◌, map, ap, sym, ◌∙◌, subst}
+use Rattle.std.proofs.Common.{◌≡◌, List, [], ◌∷◌, ◌++◌, map, ap, sym, ◌∙◌}
 use Rattle.std.proofs.lemmas.List.{map-id, map-append}
 use Rattle.std.proofs.lemmas.Iterator.Adapters.{YieldsList-from_vec}
 use Rattle.std.proofs.lemmas.Iterator.Consumers.{YieldsList-end}
 use Rattle.qtc_future.specs.Future.{Future, new_future}
-use Rattle.qtc_future.specs.Steps.{Told, step}
+use Rattle.qtc_future.specs.Steps.{step}
 use Rattle.qtc_future.specs.Runs.{run_of, told_of, with_asked}
 use Rattle.qtc_future.specs.declared.requests.Asked.{Asked}
 use Rattle.qtc_future.proofs.Appending.{fold-push}
@@ -23,11 +23,11 @@ loop-asked-preserved g c =
       filter = ap (λ f. f.filter) c.in_ok-reply.ensures.ok.future ∙ step-filter c.loop-asked.core asked.caller asked.request ∙ c.loop-asked.invariant.filter;
       future = c.in_ok-reply.ensures.ok.future ∙ ap (λ f. (step f asked.caller asked.request).future) future ∙ ap (λ r. r.future) push;
       told =
-        ap (map told_of) c.in-Ok.ensures.ok
-        ∙ map-append told_of c.loop-asked.answers (c.in_ok-reply.reply ∷ [])
-        ∙ ap (λ ts. ts ++ told_of c.in_ok-reply.reply ∷ []) c.loop-asked.invariant.told
-        ∙ ap (λ t. (run_of start c.loop-asked.yielded).told ++ t ∷ []) (c.in_ok-reply.ensures.ok.answer ∙ ap (λ f. (step f asked.caller asked.request).told) future)
-        ∙ ap (λ r. r.told) push;
+          ap (map told_of) c.in-Ok.ensures.ok
+          ∙ map-append told_of c.loop-asked.answers (c.in_ok-reply.reply ∷ [])
+          ∙ ap (λ ts. ts ++ told_of c.in_ok-reply.reply ∷ []) c.loop-asked.invariant.told
+          ∙ ap (λ t. (run_of start c.loop-asked.yielded).told ++ t ∷ []) (c.in_ok-reply.ensures.ok.answer ∙ ap (λ f. (step f asked.caller asked.request).told) future)
+          ∙ ap (λ r. r.told) push;
     }
 
 pub returns-clause-future : goal.returns-clause-future

@@ -1,4 +1,4 @@
-use Rattle.std.proofs.Common.{◌≡◌, ◌+◌, ◌≤◌, [], ◌∷◌, ◌++◌, length, length-append, option_to_list, ap, sym, ◌∙◌, arith}
+use Rattle.std.proofs.Common.{◌≡◌, ◌+◌, [], ◌∷◌, ◌++◌, length, length-append, option_to_list, ap, sym, ◌∙◌, arith}
 use Rattle.qtc_events.specs.Journal.{posts_of_entry}
 use Rattle.qtc_future.specs.Booked.{Booked}
 use Rattle.qtc_future.proofs.Rooms.{has_room_after}

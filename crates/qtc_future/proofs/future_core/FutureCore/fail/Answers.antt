@@ -1,4 +1,4 @@
-use Rattle.std.proofs.Common.{◌≡◌, ◌++◌, [], ap, sym, ◌∙◌, refl}
+use Rattle.std.proofs.Common.{◌++◌, [], ap, sym, ◌∙◌, refl}
 use Rattle.qtc_events.specs.Calls.{has_effect}
 use Rattle.qtc_events.specs.Journal.{flags_after_all, posts_of_entry}
 use Rattle.qtc_events.specs.declared.calls.Call.{Call}

@@ -1,4 +1,4 @@
-use Rattle.std.proofs.Common.{◌≡◌, ap, sym, ◌∙◌}
+use Rattle.std.proofs.Common.{ap, sym, ◌∙◌}
 use Rattle.qtc_future.specs.Future.{journal_of}
 use Rattle.qtc_future.proofs.OneMore.{entries-read}
 use Rattle.qtc_future.proofs.future_core.FutureCore.journal.Goals as goal

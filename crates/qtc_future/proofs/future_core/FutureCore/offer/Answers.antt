@@ -1,4 +1,4 @@
-use Rattle.std.proofs.Common.{◌≡◌, ℕ, Bool, ◌++◌, ◌∷◌, ◌||◌, List, [], length, Result, Err, ap, sym, ◌∙◌, subst}
+use Rattle.std.proofs.Common.{◌≡◌, ℕ, ◌++◌, ◌∷◌, ◌||◌, List, [], Result, Err, ap, sym, ◌∙◌, subst}
 use Rattle.qtc_events.specs.Flags.{Standing}
 use Rattle.qtc_events.specs.Journal.{flags_after_all, posts_of_entry}
 use Rattle.qtc_events.specs.declared.calls.Call.{Call}
@@ -10,12 +10,12 @@ use Rattle.qtc_store.specs.declared.batch.AddFault.{AddFault}
 use Rattle.qtc_store.specs.declared.batch.AddFault.TheVariants.{Taken, PastEnd}
 use Rattle.qtc_store.specs.Batches.{least_covered}
 use Rattle.qtc_store.specs.Stored.{batch_with, count_of, NothingRefuses}
-use Rattle.qtc_future.specs.Future.{Future, results_of}
-use Rattle.qtc_future.specs.Steps.{has_ended, reached_by, report_of, with_call, logged_by}
+use Rattle.qtc_future.specs.Future.{results_of}
+use Rattle.qtc_future.specs.Steps.{has_ended, reached_by, report_of, with_call}
 use Rattle.qtc_future.specs.Core.{calls_read, seen, IsKept}
 use Rattle.qtc_future.proofs.OneMore.{entries-read}
 use Rattle.qtc_future.proofs.Plain.{carrying}
-use Rattle.qtc_future.proofs.Reporting.{kept_report, seen_report, store_with, with_batch_some, report_entry, report_step, refused_step, unrefused_free}
+use Rattle.qtc_future.proofs.Reporting.{kept_report, seen_report, store_with, with_batch_some, report_step, refused_step, unrefused_free}
 use Rattle.qtc_future.proofs.future_core.FutureCore.offer.Goals as goal
 
 pub invariant_of-self-then-total-gt0 : goal.invariant_of-self-then-total-gt0

@@ -1,12 +1,10 @@
-use Rattle.std.proofs.Common.{◌≡◌, ◌++◌, ◌∷◌, [], IsTrue, ap, sym, ◌∙◌, subst}
+use Rattle.std.proofs.Common.{◌++◌, ◌∷◌, [], IsTrue, ap, sym, ◌∙◌, subst}
 use Rattle.qtc_events.specs.Flags.{Standing}
 use Rattle.qtc_events.specs.Calls.{has_effect}
 use Rattle.qtc_events.specs.Journal.{flags_after_all, posts_of_entry}
 use Rattle.qtc_events.specs.declared.entries.Entry.{Entry}
-use Rattle.qtc_future.specs.Booked.{Booked}
 use Rattle.qtc_future.specs.Future.{flags_of}
 use Rattle.qtc_future.specs.Steps.{reached_by}
-use Rattle.qtc_future.specs.Core.{seen}
 use Rattle.qtc_future.proofs.OneMore.{entries-read}
 use Rattle.qtc_future.proofs.Plain.{kept_plain}
 use Rattle.qtc_future.proofs.future_core.FutureCore.try_log.Goals as goal

@@ -211,8 +211,8 @@ impl<V: Drop> FutureCore<V> {
         ensures { IsStep (step self.old caller (request.Fail index item)) self.new (Effect result) }
     {
         let call = Call::Fail { index };
-        let effect = call.has_effect(self.book.flags());
-        if effect {
+        let fails = call.has_effect(self.book.flags());
+        if fails {
             self.failure = Some(Failure { index, item });
             let entry = Entry {
                 caller,
@@ -221,7 +221,7 @@ impl<V: Drop> FutureCore<V> {
             };
             self.book.enter(self.store.is_filter(), entry, 0, 0);
         }
-        effect
+        fails
     }
 
     /// Asks to suspend the work, or to resume it: true exactly where it had an effect. Err is want of memory.

@@ -20,20 +20,20 @@ invariant_of-self g c =
     let call : Call = Fail c.args.index in
     let entry : Entry = record { caller = c.args.caller; call = call; reached = Nothing } in
     kept_failed inside.thresholds inside.book c.enter.new.self inside.store inside.failure c.args.caller Nothing c.args.index c.args.item c.self.invariant
-    (sym (c.has_effect-effect.ensures ∙ ap (λ s. has_effect s call) c.flags.ensures) ∙ c.if-effect.true)
+    (sym (c.has_effect-fails.ensures ∙ ap (λ s. has_effect s call) c.flags.ensures) ∙ c.if-fails.true)
     (idle_reached future call refl)
     c.enter.ensures.journal
     (c.enter.ensures.events ∙ ap (λ f. inside.book.events ++ posts_of_entry f entry 0 0) c.is_filter.ensures)
     c.enter.ensures.room
 
-pub returns-then-effect : goal.returns-then-effect
-returns-then-effect g c =
+pub returns-then-fails : goal.returns-then-fails
+returns-then-fails g c =
     let inside = c.self.inside in
     let future = seen inside.thresholds inside.book inside.store inside.failure in
     let call : Call = Fail c.args.index in
     let flags = c.flags.ensures ∙ sym (ap flags_after_all (entries-read inside.store.batches inside.failure inside.book.journal)) ∙ ap flags_of c.self.view_is in
-    row_taken c.args.self.now _ c.args.caller call c.args.item c.has_effect-effect.result
-    (c.has_effect-effect.ensures ∙ ap (λ s. has_effect s call) flags)
-    c.if-effect.true
-    (seen_failing inside.thresholds inside.book c.enter.new.self inside.store inside.failure c.args.caller Nothing c.args.index c.args.item (sym (c.has_effect-effect.ensures ∙ ap (λ s. has_effect s call) c.flags.ensures) ∙ c.if-effect.true) (idle_reached future call refl) c.enter.ensures.journal
+    row_taken c.args.self.now _ c.args.caller call c.args.item c.has_effect-fails.result
+    (c.has_effect-fails.ensures ∙ ap (λ s. has_effect s call) flags)
+    c.if-fails.true
+    (seen_failing inside.thresholds inside.book c.enter.new.self inside.store inside.failure c.args.caller Nothing c.args.index c.args.item (sym (c.has_effect-fails.ensures ∙ ap (λ s. has_effect s call) c.flags.ensures) ∙ c.if-fails.true) (idle_reached future call refl) c.enter.ensures.journal
     ∙ ap (λ f. with_call f (logged_by f c.args.caller call [] c.args.item)) c.self.view_is)

@@ -1,0 +1,64 @@
+-- What the fields of a counter, a seat, a piece and a tally mean (own).
+use Rattle.std.specs.Prelude.{◌≡◌, ℕ, ◌+◌, ◌≤◌, ◌<◌, List, [], ◌∷◌, length, slice_index_or}
+use Rattle.qtc_claim.specs.declared.counter.Counter.TheInside as counter
+use Rattle.qtc_claim.specs.declared.seat.Seat.TheInside as seat
+use Rattle.qtc_claim.specs.declared.piece.Piece.TheInside as piece
+use Rattle.qtc_claim.specs.declared.tally.Tally.TheInside as tally
+use Rattle.qtc_claim.specs.declared.rule.View.{View}
+use Rattle.qtc_claim.specs.Claims.{most_size, Addition, Worker, new_worker, added, added_past, claims_of, clipped}
+use Rattle.qtc_claim.specs.Rule.{worker_view, piece_view, IsWithinLimits}
+use Rattle.qtc_claim.specs.Counter.{CounterId, SeatState, PieceState, TallyState}
+
+abbrev pub counter_id : counter.Inside → CounterId
+counter_id a = record { table = a.table.shared.table_id; n = a.limits.n; workers = a.limits.workers }
+
+pub record IsCounter (a : counter.Inside) : Type 0 where
+  pub key : a.table.shared.key ≡ a.limits
+  pub words : a.table.shared.table_id.words ≡ 1
+  pub limits : IsWithinLimits a.limits.n a.limits.workers
+
+-- the one worker of a worker's view
+abbrev pub worker_of : View → Worker
+worker_of view = slice_index_or view.workers 0 (new_worker 0)
+
+abbrev pub seat_state : seat.Inside → SeatState
+seat_state a = record {
+  of = record { table = a.seat.table_id; n = a.seat.me.0.n; workers = a.seat.me.0.most };
+  worker = worker_of a.seat.me.0;
+}
+
+-- a worker's seat, with nothing in hand
+pub record IsSeat (a : seat.Inside) : Type 0 where
+  pub me : a.seat.me ≡ (worker_view a.seat.me.0.n a.seat.me.0.most (worker_of a.seat.me.0) [], [])
+  pub claimed : a.claimed ≡ added (worker_of a.seat.me.0).claims
+  pub blank : a.blank ≡ added_past a.seat.me.0.n (worker_of a.seat.me.0).claims
+
+-- the one range of a piece's view
+abbrev pub addition_of : View → Addition
+addition_of view = slice_index_or view.held 0 (record { begin = 0; size = 0 })
+
+abbrev pub piece_state : piece.Inside → PieceState
+piece_state a = record {
+  of = record { table = a.seat.table_id; n = a.seat.me.0.n; workers = a.seat.me.0.most };
+  addition = addition_of a.seat.me.0;
+}
+
+pub record IsPiece (a : piece.Inside) : Type 0 where
+  pub me : a.seat.me ≡ (piece_view a.seat.me.0.n a.seat.me.0.most (addition_of a.seat.me.0 ∷ []), [])
+  pub range : (a.range.begin, a.range.end) ≡ clipped a.seat.me.0.n (addition_of a.seat.me.0)
+  pub size : a.size ≡ (addition_of a.seat.me.0).size
+
+abbrev pub tally_state : tally.Inside → TallyState
+tally_state a = record {
+  of = record { table = a.seat.table_id; n = a.seat.me.0.n; workers = a.seat.me.0.most };
+  pieces = a.seat.me.0.held;
+  workers = a.seat.me.0.workers;
+}
+
+-- a tally whose workers are all made
+pub record IsTally (a : tally.Inside) : Type 0 where
+  pub slots : a.seat.me.1 ≡ []
+  pub made : a.seat.me.0.unmade ≡ 0
+  pub gathered : a.gathered ≡ added a.seat.me.0.held
+  pub blank : a.blank ≡ added_past a.seat.me.0.n (claims_of a.seat.me.0.workers)
+  pub seats : a.seats ≡ length a.seat.me.0.workers

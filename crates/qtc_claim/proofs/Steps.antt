@@ -12,7 +12,7 @@ use Rattle.atomic_table.proofs.Lists.{set_here, set_else, set_again}
 use Rattle.qtc_lock.proofs.Views.{placed, All-at, All-snoc, sum_by-set_view, sum_by-snoc}
 use Rattle.qtc_claim.specs.declared.rule.View.{View}
 use Rattle.qtc_claim.specs.declared.rule.Limits.{Limits}
-use Rattle.qtc_claim.specs.Claims.{most_indexes, most_workers, most_size, Addition, Worker, new_worker, after_load, after_addition}
+use Rattle.qtc_claim.specs.Claims.{most_indexes, most_workers, most_size, Addition, addition_at, Worker, new_worker, after_load, after_addition}
 use Rattle.qtc_claim.specs.Rule.{IsWithinLimits, worker_view, piece_view, first_view, spent_view, covers, covering, blank, claimed, kept, saw, numbered, seats, IsRight, Adds, Holds, IsKept, KnowsAll, Knows, looked, grown, left_to_make, made, empty_handed, cut, gathered, Looks, Grows, Reads}
 use Rattle.qtc_claim.proofs.Sums.{covers_none, covers_one, covers_on, covers_first, sum_by_nothing}
 
@@ -182,7 +182,7 @@ right_later n count count' later view right = record {
 }
 
 -- what a worker saw, where it is the one of its view
-one_seen : (n count : ℕ) (view : View) (worker : Worker) → view.workers ≡ worker ∷ [] → IsRight n count view → worker.seen ≤ count
+pub one_seen : (n count : ℕ) (view : View) (worker : Worker) → view.workers ≡ worker ∷ [] → IsRight n count view → worker.seen ≤ count
 one_seen n count view worker one right =
     All-head (λ (it : Worker). it.seen ≤ count) worker [] (subst (λ ws. All (λ (it : Worker). it.seen ≤ count) ws) one right.seen)
 
@@ -218,7 +218,7 @@ module _ (key : Limits) (worker : Worker) (held : List Addition) where
   look_tells id count views holds at =
       let after = look_keeps id count views holds at in
       let there = placed views id mine at in
-      (after, (refl, knows_view key count (set views id (looked count mine)) after id (looked count mine) (set_here views id (looked count mine) there.0) refl refl))
+      (after, (refl, (All-at (IsRight key.n count) views id mine at holds.right).seen, knows_view key count (set views id (looked count mine)) after id (looked count mine) (set_here views id (looked count mine) there.0) refl refl))
 
 -- a worker loads
 pub looks : (key : Limits) (slots id : ℕ) (worker : Worker) (held : List Addition) (m : Me (Unit {0}) View) → m ≡ (worker_view key.n key.workers worker held, [])
@@ -264,7 +264,7 @@ module _ (key : Limits) (worker : Worker) (size : ℕ) where
   grow_keeps : (id count : ℕ) (views : List View) → size ≤ most_size → worker.seen < key.n → Holds key count views → get_elem? views id ≡ some empty
       → Holds key (count + size) (set views id (grown count size empty))
   grow_keeps id count views small below holds at =
-      let a : Addition = record { begin = count; size = size } in
+      let a : Addition = addition_at count size in
       let after = grown count size empty in
       let later : count ≤ count + size = omega arith in
       let right' : IsRight key.n (count + size) after =
@@ -297,7 +297,7 @@ module _ (key : Limits) (worker : Worker) (size : ℕ) where
       let fits : count + size < 2 ^ 64 = let limits = holds.limits in let bound = in_bound key count views holds in in_word count size key.n key.workers small limits.indexes limits.few bound in
       (
         subst (λ now. Holds key now (set views id (grown count size empty))) (sym (mod-eq_of_lt fits)) after,
-        (refl, knows_view key (count + size) (set views id (grown count size empty)) after id (grown count size empty) (set_here views id (grown count size empty) there.0) refl refl),
+        (refl, (All-at (IsRight key.n count) views id empty at holds.right).seen, knows_view key (count + size) (set views id (grown count size empty)) after id (grown count size empty) (set_here views id (grown count size empty) there.0) refl refl),
       )
     where
       in_word : (here more n workers : ℕ) → more ≤ most_size → n ≤ most_indexes → workers ≤ most_workers → here ≤ n + most_size * workers → here + more < 2 ^ 64

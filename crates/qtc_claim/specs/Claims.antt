@@ -18,6 +18,9 @@ pub record Addition : Type 0 where
   pub begin : ℕ
   pub size : ℕ
 
+abbrev pub addition_at : (begin size : ℕ) → Addition
+addition_at begin size = record { begin = begin; size = size }
+
 -- the numbers that it claims
 abbrev pub raw : Addition → ℕ × ℕ
 raw addition = (addition.begin, addition.begin + addition.size)

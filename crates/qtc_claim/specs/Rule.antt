@@ -4,7 +4,7 @@ use Rattle.atomic_table.specs.Table.{State, Me}
 use Rattle.qtc_base.specs.Ranges.{in_range}
 use Rattle.qtc_claim.specs.declared.rule.View.{View}
 use Rattle.qtc_claim.specs.declared.rule.Limits.{Limits}
-use Rattle.qtc_claim.specs.Claims.{most_indexes, most_workers, most_size, Addition, Worker, new_worker, after_load, after_addition}
+use Rattle.qtc_claim.specs.Claims.{most_indexes, most_workers, most_size, Addition, addition_at, Worker, new_worker, after_load, after_addition}
 
 -- n indexes, for so many workers
 pub record IsWithinLimits (n workers : ℕ) : Type 0 where
@@ -119,8 +119,8 @@ looked count view = record view { workers = map (after_load count) view.workers 
 -- a worker that added `size` to it there, with the range in hand where that began below n
 abbrev pub grown : (count size : ℕ) → View → View
 grown count size view = record view {
-  workers = map (after_addition (record { begin = count; size = size })) view.workers;
-  held = cond (nat_lt count view.n) (record { begin = count; size = size } ∷ []) [];
+  workers = map (after_addition (addition_at count size)) view.workers;
+  held = cond (nat_lt count view.n) (addition_at count size ∷ []) [];
 }
 
 -- the tally gives a new worker the next number
@@ -141,13 +141,13 @@ cut view = piece_view view.n view.most view.held
 abbrev pub gathered : View → View → View
 gathered view other = record view { workers = view.workers ++ other.workers; held = view.held ++ other.held }
 
--- What the steps that read or change the counter tell.
+-- What the steps that read or change the counter tell: what became of the view, that its workers saw no more than was found, and what its owner knows now.
 
 abbrev pub Looks : View → ℕ → View → Type 0
-Looks before found after = (after ≡ looked found before) × Knows after found
+Looks before found after = (after ≡ looked found before) × All (λ worker. worker.seen ≤ found) before.workers × Knows after found
 
 abbrev pub Grows : ℕ → View → ℕ → View → Type 0
-Grows size before found after = (after ≡ grown found size before) × Knows after (found + size)
+Grows size before found after = (after ≡ grown found size before) × All (λ worker. worker.seen ≤ found) before.workers × Knows after (found + size)
 
 abbrev pub Reads : View → ℕ → View → Type 0
 Reads before found after = (after ≡ before) × Knows before found

@@ -2,12 +2,16 @@
 #![tactic(auto)]
 
 mod counter;
+mod laws;
 mod piece;
 mod rule;
 mod seat;
 mod tally;
+#[cfg(test)]
+mod tests;
 
 pub use counter::Counter;
+pub use laws::calls_come_together;
 pub use piece::Piece;
 pub use seat::Seat;
 pub use tally::Tally;

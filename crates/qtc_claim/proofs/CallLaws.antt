@@ -8,7 +8,7 @@ use Rattle.std.proofs.lemmas.List.Concat.{flat_map-append}
 use native.Mathlib.Decide.{dec_lt}
 use Rattle.qtc_base.specs.Ranges.{in_range, times_covered, Tiles}
 use Rattle.qtc_claim.specs.Claims.{Addition, Worker, new_worker, claims_of, clipped, MeetNowhere}
-use Rattle.qtc_claim.specs.Counter.{CounterId, PieceState, TallyState, Claims, ClaimsNone, HasAll, KnowsClaims, added_by}
+use Rattle.qtc_claim.specs.Counter.{CounterId, PieceState, TallyState, ClaimsPiece, ClaimsNone, HasAll, KnowsClaims, added_by}
 use Rattle.qtc_claim.specs.Laws.{times_called, AreCalls, EachOnce, CallsComeTogether}
 
 pub calls_together : (n : ℕ) (claims more : List Addition) (calls further : List ℕ) → AreCalls n claims calls → AreCalls n more further → AreCalls n (claims ++ more) (calls ++ further)
@@ -17,10 +17,10 @@ calls_together n claims more calls further are are' index =
     let other = are' index in
     let called : times_called (calls ++ further) index ≡ times_called calls index + times_called further index = sum_by-append (λ call. cond (call == index) 1 0) calls further in
     let covered : times_covered (map (clipped n) claims ++ map (clipped n) more) index ≡ times_covered (map (clipped n) claims) index + times_covered (map (clipped n) more) index =
-          sum_by-append (λ (range : ℕ × ℕ). cond (in_range index range) 1 0) (map (clipped n) claims) (map (clipped n) more)
+    sum_by-append (λ (range : ℕ × ℕ). cond (in_range index range) 1 0) (map (clipped n) claims) (map (clipped n) more)
     in
     let joined : times_covered (map (clipped n) (claims ++ more)) index ≡ times_covered (map (clipped n) claims ++ map (clipped n) more) index =
-          ap (λ ranges. times_covered ranges index) (map-append (clipped n) claims more)
+    ap (λ ranges. times_covered ranges index) (map-append (clipped n) claims more)
     in
     omega arith
 
@@ -56,7 +56,7 @@ called_next n claims calls calls' addition are more index =
     let one = are index in
     let next = more index in
     let joined : times_covered (map (clipped n) (claims ++ addition ∷ [])) index ≡ times_covered (map (clipped n) claims ++ clipped n addition ∷ []) index =
-          ap (λ ranges. times_covered ranges index) (map-append (clipped n) claims (addition ∷ []))
+    ap (λ ranges. times_covered ranges index) (map-append (clipped n) claims (addition ∷ []))
     in
     let pushed = sum_by_push (λ (range : ℕ × ℕ). cond (in_range index range) 1 0) (map (clipped n) claims) (clipped n addition) in
     omega arith
@@ -69,7 +69,7 @@ called_none n claims calls addition past are = called_next n claims calls calls 
     nothing index = grind (arith, nat_tests)
 
 -- what a claim and the calls on its piece make of the calls
-pub called_piece : (counter : CounterId) (size : ℕ) (before after : Worker) (piece : PieceState) (calls calls' : List ℕ) (range : ℕ × ℕ) → Claims counter size before after piece
+pub called_piece : (counter : CounterId) (size : ℕ) (before after : Worker) (piece : PieceState) (calls calls' : List ℕ) (range : ℕ × ℕ) → ClaimsPiece counter size before after piece
     → range ≡ clipped piece.of.n piece.addition → AreCalls counter.n before.claims calls
     → ((index : ℕ) → times_called calls' index ≡ times_called calls index + cond (in_range index range) 1 0)
     → AreCalls counter.n after.claims calls'

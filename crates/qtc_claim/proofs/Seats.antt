@@ -7,9 +7,9 @@ use Rattle.qtc_base.specs.Ranges.{Tiles}
 use Rattle.atomic_table.specs.Table.{Me}
 use Rattle.atomic_table.specs.Seated.{TableId}
 use Rattle.qtc_claim.specs.declared.rule.View.{View}
-use Rattle.qtc_claim.specs.Claims.{most_indexes, most_workers, most_size, Addition, addition_at, Worker, new_worker, added, added_past, claims_of, clipped, MeetNowhere, after_load, after_addition}
-use Rattle.qtc_claim.specs.Rule.{IsWithinLimits, worker_view, covers, covering, blank, claimed, kept, IsRight, KnowsAll, Knows, looked, grown, made, Looks, Grows}
-use Rattle.qtc_claim.specs.Counter.{CounterId, SeatState, PieceState, TallyState, Sees, Claims, IsGathered, HasAll, IsEnd, KnowsClaims, added_by}
+use Rattle.qtc_claim.specs.Claims.{IsWithinLimits, most_indexes, most_workers, most_size, Addition, addition_at, Worker, new_worker, added, added_past, claims_of, clipped, MeetNowhere, after_load, after_addition}
+use Rattle.qtc_claim.specs.Rule.{worker_view, covers, covering, blank, claimed, kept, IsRight, KnowsAll, Knows, looked, grown, made, Looks, Grows}
+use Rattle.qtc_claim.specs.Counter.{CounterId, SeatState, PieceState, TallyState, Sees, ClaimsPiece, IsGathered, HasAll, IsEnd, KnowsClaims, added_by}
 use Rattle.atomic_table.specs.declared.shared.Seat.{Seat}
 use Rattle.qtc_claim.specs.declared.counter.Counter.TheInside.{Inside}
 use Rattle.qtc_claim.specs.Inside.{counter_id, IsCounter, IsWorker, worker_of, seat_of, in_hand, of_seat, tally_of, HasRead}
@@ -41,10 +41,10 @@ pub look_sees : (counter : CounterId) (worker : Worker) (held : List Addition) (
 look_sees counter worker held count before after is told =
     let after_is : after ≡ worker_view counter.n counter.workers (after_load count worker) held = told.0 ∙ ap (looked count) is in
     sees_from counter worker (after_load count worker) held count
-        (first_seen count worker before.workers (ap (λ (v : View). v.workers) is) told.1)
-        (omega arith)
-        (omega arith)
-        (subst (λ v. Knows v count) after_is told.2)
+    (first_seen count worker before.workers (ap (λ (v : View). v.workers) is) told.1)
+    (omega arith)
+    (omega arith)
+    (subst (λ v. Knows v count) after_is told.2)
 
 pub grow_sees : (counter : CounterId) (worker : Worker) (size count : ℕ) (before after : View) → before ≡ worker_view counter.n counter.workers worker []
     → Grows size before count after → Sees counter worker (after_addition (addition_at count size) worker)
@@ -53,10 +53,10 @@ grow_sees counter worker size count before after is told =
     let after_is : after ≡ worker_view counter.n counter.workers (after_addition (addition_at count size) worker) held = told.0 ∙ ap (grown count size) is in
     let seen = first_seen count worker before.workers (ap (λ (v : View). v.workers) is) told.1 in
     sees_from counter worker (after_addition (addition_at count size) worker) held (count + size)
-        (omega arith)
-        (omega arith)
-        (omega arith)
-        (subst (λ v. Knows v (count + size)) after_is told.2)
+    (omega arith)
+    (omega arith)
+    (omega arith)
+    (subst (λ v. Knows v (count + size)) after_is told.2)
 
 -- a worker's seat, at the counter's table and under its key
 pub record IsAtKey (a : Inside) (worker : Worker) (held : List Addition) (seat : Seat (Unit {0}) View) : Type 0 where
@@ -125,11 +125,11 @@ module _ (counter : CounterId) (count : ℕ) (view : View) (limits : IsWithinLim
       let whole : kept view.n (λ addition. addition.size) view ≡ count = let blanks = past_is in omega arith in
       let covered : (number : ℕ) → kept view.n (covering number) view ≡ covers number 0 count = (knows_all end.all).nothing_out whole in
       let no_blank : (number : ℕ) → number < view.n → claimed (blank view.n (covering number)) view ≡ 0 = λ number below.
-            sum_by_none (λ (worker : Worker). sum_by (blank view.n (covering number)) worker.claims) view.workers
-                (λ worker. sum_by_none (blank view.n (covering number)) worker.claims (λ addition. blank_below view.n number addition below))
+      sum_by_none (λ (worker : Worker). sum_by (blank view.n (covering number)) worker.claims) view.workers
+      (λ worker. sum_by_none (blank view.n (covering number)) worker.claims (λ addition. blank_below view.n number addition below))
       in
       tiles_from counter.n count view.held (omega arith)
-          (λ number below. let cover = covered number in let none = no_blank number (omega arith) in omega arith)
+      (λ number below. let cover = covered number in let none = no_blank number (omega arith) in omega arith)
 
   pub has_read : HasRead counter count tally
   has_read = record {
@@ -167,7 +167,7 @@ pub claim_gives : (counter : CounterId) (size begin found : ℕ) (before worker 
     → worker ≡ before → looked ≡ after_load found worker → grown ≡ after_addition (addition_at begin size) looked → after ≡ grown
     → piece ≡ record { of = counter; addition = addition_at begin size }
     → worker.seen ≤ found → looked.seen ≤ begin → begin < counter.n
-    → Claims counter size before after piece
+    → ClaimsPiece counter size before after piece
 claim_gives counter size begin found before worker looked grown after piece whose looked_is grown_is after_is piece_is later later' below =
     let found_is : looked.seen ≡ found = ap (λ (w : Worker). w.seen) looked_is in
     let begin_is : piece.addition.begin ≡ begin = ap (λ (p : PieceState). p.addition.begin) piece_is in
@@ -197,4 +197,20 @@ pub next_seat : (state : ℕ → SeatState) (seats seats' : List SeatState) (sea
     → ((i : ℕ) → i < number → slice_get seats i ≡ Some (state i)) → seat ≡ state number → (i : ℕ) → i < number + 1 → slice_get seats' i ≡ Some (state i)
 next_seat state seats seats' seat number items count each is i within =
     subst (λ xs. slice_get xs i ≡ Some (state i)) (sym items)
-        (pushed_each state seats seat (λ k below. each k (omega arith)) (is ∙ ap state (sym count)) i (omega arith))
+    (pushed_each state seats seat (λ k below. each k (omega arith)) (is ∙ ap state (sym count)) i (omega arith))
+
+-- the seat after a load, and after an addition
+pub looked_worker : (counter : CounterId) (worker : Worker) (count : ℕ) (before after : Seat (Unit {0}) View) → IsWorker counter worker [] before → after.table_id ≡ before.table_id
+    → (after.me.1 ≡ []) × Looks before.me.0 count after.me.0 → IsWorker counter (after_load count worker) [] after
+looked_worker counter worker count before after is at told =
+    let view : after.me.0 ≡ worker_view counter.n counter.workers (after_load count worker) [] = told.1.0 ∙ ap (λ m. looked count m.0) is.me in
+    record { at = at ∙ is.at; me = λ i. (view i, told.0 i) }
+
+pub grown_worker : (counter : CounterId) (worker : Worker) (size count : ℕ) (before after : Seat (Unit {0}) View) → IsWorker counter worker [] before → after.table_id ≡ before.table_id
+    → (after.me.1 ≡ []) × Grows size before.me.0 count after.me.0
+    → IsWorker counter (after_addition (addition_at count size) worker) (in_hand counter.n (addition_at count size)) after
+grown_worker counter worker size count before after is at told =
+    let view : after.me.0 ≡ worker_view counter.n counter.workers (after_addition (addition_at count size) worker) (in_hand counter.n (addition_at count size)) =
+    told.1.0 ∙ ap (λ m. grown count size m.0) is.me
+    in
+    record { at = at ∙ is.at; me = λ i. (view i, told.0 i) }

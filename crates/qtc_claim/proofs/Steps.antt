@@ -12,15 +12,15 @@ use Rattle.atomic_table.proofs.Lists.{set_here, set_else, set_again}
 use Rattle.qtc_lock.proofs.Views.{placed, All-at, All-snoc, sum_by-set_view, sum_by-snoc}
 use Rattle.qtc_claim.specs.declared.rule.View.{View}
 use Rattle.qtc_claim.specs.declared.rule.Limits.{Limits}
-use Rattle.qtc_claim.specs.Claims.{most_indexes, most_workers, most_size, Addition, addition_at, Worker, new_worker, after_load, after_addition}
-use Rattle.qtc_claim.specs.Rule.{IsWithinLimits, worker_view, piece_view, first_view, spent_view, covers, covering, blank, claimed, kept, saw, numbered, seats, IsRight, Adds, Holds, IsKept, KnowsAll, Knows, looked, grown, left_to_make, made, empty_handed, cut, gathered, Looks, Grows, Reads}
+use Rattle.qtc_claim.specs.Claims.{IsWithinLimits, most_indexes, most_workers, most_size, Addition, addition_at, Worker, new_worker, after_load, after_addition}
+use Rattle.qtc_claim.specs.Rule.{worker_view, piece_view, first_view, spent_view, covers, covering, blank, claimed, kept, saw, numbered, seats, IsRight, AddsUp, Holds, IsKept, KnowsAll, Knows, looked, grown, left_to_make, made, empty_handed, cut, gathered, Looks, Grows, Reads}
 use Rattle.qtc_claim.proofs.Sums.{covers_none, covers_one, covers_on, covers_first, sum_by_nothing}
 
 -- what a step changes: a measure of the views that it touches, before and after
 abbrev Changes : (T T' before after : (View → ℕ) → ℕ) → Type 0
 Changes T T' before after = (measure : View → ℕ) → T' measure + before measure ≡ T measure + after measure
 
-module _ (n most count count' : ℕ) (T T' before after : (View → ℕ) → ℕ) (change : Changes T T' before after) (sums : Adds n most count T) where
+module _ (n most count count' : ℕ) (T T' before after : (View → ℕ) → ℕ) (change : Changes T T' before after) (sums : AddsUp n most count T) where
   -- what the touched views have goes on as the counter does
   moves : ((weight : Addition → ℕ) → after (kept n weight) + before (claimed weight) ≡ before (kept n weight) + after (claimed weight))
       → ((number : ℕ) → after (claimed (covering number)) + covers number 0 count ≡ before (claimed (covering number)) + covers number 0 count')
@@ -28,7 +28,7 @@ module _ (n most count count' : ℕ) (T T' before after : (View → ℕ) → ℕ
       → count' ≤ n + most_size * T' (saw n)
       → ((number : ℕ) → after (numbered number) ≡ before (numbered number))
       → after seats ≡ before seats
-      → Adds n most count' T'
+      → AddsUp n most count' T'
   moves once tiles sizes bound numbers places = record {
     once = λ weight. omega (arith, change (kept n weight), change (claimed weight), once weight, sums.once weight);
     tiles = λ number. omega (arith, change (claimed (covering number)), tiles number, sums.tiles number);
@@ -38,14 +38,14 @@ module _ (n most count count' : ℕ) (T T' before after : (View → ℕ) → ℕ
     places = omega (arith, change seats, places, sums.places);
   }
 
-module _ (n most count : ℕ) (T T' before after : (View → ℕ) → ℕ) (change : Changes T T' before after) (sums : Adds n most count T) where
+module _ (n most count : ℕ) (T T' before after : (View → ℕ) → ℕ) (change : Changes T T' before after) (sums : AddsUp n most count T) where
   -- the touched views have what they had, and the counter is as it was
   rests : ((weight : Addition → ℕ) → after (kept n weight) ≡ before (kept n weight))
       → ((weight : Addition → ℕ) → after (claimed weight) ≡ before (claimed weight))
       → before (saw n) ≤ after (saw n)
       → ((number : ℕ) → after (numbered number) ≡ before (numbered number))
       → after seats ≡ before seats
-      → Adds n most count T'
+      → AddsUp n most count T'
   rests same_kept same_claimed more same_numbers places = moves n most count count T T' before after change sums
       (λ weight. omega (arith, same_kept weight, same_claimed weight))
       (λ number. omega (arith, same_claimed (covering number)))
@@ -99,10 +99,10 @@ nothing_kept n number view none =
     let size : Addition → ℕ = λ addition. addition.size in
     let held : sum_by (covering number) view.held ≡ 0 = sum_by_nothing (covering number) size view.held (no_size number) (omega arith) in
     let of_worker : (worker : Worker) → sum_by (blank n size) worker.claims ≡ 0 → sum_by (blank n (covering number)) worker.claims ≡ 0 =
-          λ worker. sum_by_nothing (blank n (covering number)) (blank n size) worker.claims (no_blank_size n number)
+    λ worker. sum_by_nothing (blank n (covering number)) (blank n size) worker.claims (no_blank_size n number)
     in
     let blanks : claimed (blank n (covering number)) view ≡ 0 =
-          sum_by_nothing (λ (worker : Worker). sum_by (blank n (covering number)) worker.claims) (λ (worker : Worker). sum_by (blank n size) worker.claims) view.workers of_worker (omega arith)
+    sum_by_nothing (λ (worker : Worker). sum_by (blank n (covering number)) worker.claims) (λ (worker : Worker). sum_by (blank n size) worker.claims) view.workers of_worker (omega arith)
     in
     omega arith
 
@@ -127,7 +127,7 @@ module _ (key : Limits) (count : ℕ) (views : List View) (holds : Holds key cou
         let size : Addition → ℕ = λ addition. addition.size in
         let no_seats : sum_by seats (remove views id) ≡ 0 = omega (arith, parts seats, holds.sums.places, all) in
         let none : (weight : Addition → ℕ) → sum_by (claimed weight) (remove views id) ≡ 0 =
-              λ weight. sum_by_nothing (claimed weight) seats (remove views id) (no_seat weight) no_seats
+        λ weight. sum_by_nothing (claimed weight) seats (remove views id) (no_seat weight) no_seats
         in
         record {
           tiles = λ number. omega (arith, parts (claimed (covering number)), none (covering number), holds.sums.tiles number);
@@ -136,10 +136,10 @@ module _ (key : Limits) (count : ℕ) (views : List View) (holds : Holds key cou
               let whole' : kept key.n size v ≡ count = subst (λ n. kept n size v ≡ count) n_is whole in
               let no_others : sum_by (kept key.n size) (remove views id) ≡ 0 = omega (arith, parts (kept key.n size), holds.sums.once size, holds.sums.sizes, whole') in
               let no_cover : sum_by (kept key.n (covering number)) (remove views id) ≡ 0 =
-                    sum_by_nothing (kept key.n (covering number)) (kept key.n size) (remove views id) (nothing_kept key.n number) no_others
+              sum_by_nothing (kept key.n (covering number)) (kept key.n size) (remove views id) (nothing_kept key.n number) no_others
               in
               let here : kept key.n (covering number) v ≡ covers number 0 count =
-                    omega (arith, parts (kept key.n (covering number)), holds.sums.once (covering number), holds.sums.tiles number, no_cover)
+              omega (arith, parts (kept key.n (covering number)), holds.sums.once (covering number), holds.sums.tiles number, no_cover)
               in
               subst (λ n. kept n (covering number) v ≡ covers number 0 count) (sym n_is) here;
         }
@@ -168,9 +168,9 @@ module _ (key : Limits) (slots id : ℕ) where
       → Allows (IsKept key) slots id (v, []) 0 f (λ found after. (after.1 ≡ []) × Told found after.0)
   steps v f new Told make s is_kept long me wide =
       let P : List ℕ → Type 0 = λ words.
-            (w : View) × (a : Act (Unit {0})) × Valid s.homes [] a
-            × IsKept key (record { words = slice_set words 0 (f (slice_index words 0)); homes = homes_after s.homes [] a; views = slice_set s.views id w })
-            × ((carried_after [] a ≡ []) × Told (slice_index words 0) w)
+      (w : View) × (a : Act (Unit {0})) × Valid s.homes [] a
+      × IsKept key (record { words = slice_set words 0 (f (slice_index words 0)); homes = homes_after s.homes [] a; views = slice_set s.views id w })
+      × ((carried_after [] a ≡ []) × Told (slice_index words 0) w)
       in
       let made_so = make is_kept.count s.views is_kept.holds me in
       subst P (sym is_kept.word) (new is_kept.count, keeps, tt, record { count = f is_kept.count; word = refl; holds = made_so.0 }, (refl, made_so.1))
@@ -226,7 +226,7 @@ pub looks : (key : Limits) (slots id : ℕ) (worker : Worker) (held : List Addit
 looks key slots id worker held m is =
     let v = worker_view key.n key.workers worker held in
     subst (λ (x : Me (Unit {0}) View). Allows (IsKept key) slots id x 0 (λ n. n) (λ found after. (after.1 ≡ []) × Looks x.0 found after.0)) (sym is)
-        (steps key slots id v (λ n. n) (λ count. looked count v) (Looks v) (λ count views holds at. look_tells key worker held id count views holds at))
+    (steps key slots id v (λ n. n) (λ count. looked count v) (Looks v) (λ count views holds at. look_tells key worker held id count views holds at))
 
 -- the tally loads
 pub reads : (key : Limits) (slots id : ℕ) (m : Me (Unit {0}) View) → m.1 ≡ [] → m.0.n ≡ key.n → m.0.most ≡ key.workers
@@ -234,10 +234,10 @@ pub reads : (key : Limits) (slots id : ℕ) (m : Me (Unit {0}) View) → m.1 ≡
 reads key slots id m slotless n_is most_is =
     let is : m ≡ (m.0, []) = ap (λ l. (m.0, l)) slotless in
     subst (λ (x : Me (Unit {0}) View). Allows (IsKept key) slots id x 0 (λ n. n) (λ found after. (after.1 ≡ []) × Reads x.0 found after.0)) (sym is)
-        (steps key slots id m.0 (λ n. n) (λ count. m.0) (Reads m.0)
-            (λ count views holds at.
-                let same : set views id m.0 ≡ views = set_again views id m.0 at in
-                (subst (Holds key count) (sym same) holds, (refl, knows_view key count views holds id m.0 at n_is most_is))))
+    (steps key slots id m.0 (λ n. n) (λ count. m.0) (Reads m.0)
+    (λ count views holds at.
+    let same : set views id m.0 ≡ views = set_again views id m.0 at in
+    (subst (Holds key count) (sym same) holds, (refl, knows_view key count views holds id m.0 at n_is most_is))))
 
 module _ (key : Limits) (worker : Worker) (size : ℕ) where
   abbrev empty : View
@@ -268,11 +268,11 @@ module _ (key : Limits) (worker : Worker) (size : ℕ) where
       let after = grown count size empty in
       let later : count ≤ count + size = omega arith in
       let right' : IsRight key.n (count + size) after =
-            record { seen = one_sees (count + size) (after_addition a worker) (omega arith); below = held_below key.n count a refl }
+      record { seen = one_sees (count + size) (after_addition a worker) (omega arith); below = held_below key.n count a refl }
       in
       let change = set_changes views id empty after at in
       let claims : (weight : Addition → ℕ) → claimed weight after ≡ claimed weight empty + weight a =
-            λ weight. let pushed = sum_by_push weight worker.claims a in omega (arith, pushed)
+      λ weight. let pushed = sum_by_push weight worker.claims a in omega (arith, pushed)
       in
       record {
         limits = holds.limits;
@@ -294,8 +294,7 @@ module _ (key : Limits) (worker : Worker) (size : ℕ) where
   grow_tells id count views small below holds at =
       let after = grow_keeps id count views small below holds at in
       let there = placed views id empty at in
-      let fits : count + size < 2 ^ 64 = let limits = holds.limits in let bound = in_bound key count views holds in in_word count size key.n key.workers small limits.indexes limits.few bound in
-      (
+      let fits : count + size < 2 ^ 64 = let limits = holds.limits in let bound = in_bound key count views holds in in_word count size key.n key.workers small limits.indexes limits.few bound in (
         subst (λ now. Holds key now (set views id (grown count size empty))) (sym (mod-eq_of_lt fits)) after,
         (refl, (All-at (IsRight key.n count) views id empty at holds.right).seen, knows_view key (count + size) (set views id (grown count size empty)) after id (grown count size empty) (set_here views id (grown count size empty) there.0) refl refl),
       )
@@ -309,7 +308,7 @@ pub grows : (key : Limits) (slots id size : ℕ) (worker : Worker) (m : Me (Unit
 grows key slots id size worker m is small below =
     let v = worker_view key.n key.workers worker [] in
     subst (λ (x : Me (Unit {0}) View). Allows (IsKept key) slots id x 0 (λ n. (n + size) % 2 ^ 64) (λ found after. (after.1 ≡ []) × Grows size x.0 found after.0)) (sym is)
-        (steps key slots id v (λ n. (n + size) % 2 ^ 64) (λ count. grown count size v) (Grows size v) (λ count views holds at. grow_tells key worker size id count views small below holds at))
+    (steps key slots id v (λ n. (n + size) % 2 ^ 64) (λ count. grown count size v) (Grows size v) (λ count views holds at. grow_tells key worker size id count views small below holds at))
 
 -- a view that has no worker, nothing in hand and no number to give
 right_piece : (n count : ℕ) (view : View) → view.workers ≡ [] → All (λ addition. addition.begin < n) view.held → IsRight n count view
@@ -376,13 +375,13 @@ gathers key id v other w none_left s is_kept me apart there = record {
       let right = All-at P views id v me holds.right in
       let right_other = All-at P views other w (at_other views id other (gathered v w) w apart there) holds.right in
       let both : P (gathered v w) = record {
-            seen = All-append (λ (it : Worker). it.seen ≤ count) v.workers w.workers right.seen right_other.seen;
-            below = All-append (λ (it : Addition). it.begin < key.n) v.held w.held right.below right_other.below;
-          }
+        seen = All-append (λ (it : Worker). it.seen ≤ count) v.workers w.workers right.seen right_other.seen;
+        below = All-append (λ (it : Addition). it.begin < key.n) v.held w.held right.below right_other.below;
+      }
       in
       let spent : P spent_view = right_piece key.n count spent_view refl (All-nil (λ (it : Addition). it.begin < key.n)) in
       let claims : (weight : Addition → ℕ) → claimed weight (gathered v w) ≡ claimed weight v + claimed weight w =
-            λ weight. sum_by-append (λ (it : Worker). sum_by weight it.claims) v.workers w.workers
+      λ weight. sum_by-append (λ (it : Worker). sum_by weight it.claims) v.workers w.workers
       in
       record {
         limits = holds.limits;
@@ -393,10 +392,10 @@ gathers key id v other w none_left s is_kept me apart there = record {
             (λ weight. omega (arith, claims weight))
             (let all_saw = sum_by-append (λ (it : Worker). cond (nat_le key.n it.seen) 1 0) v.workers w.workers in omega (arith, all_saw))
             (λ number.
-                let counts = sum_by-append (λ (it : Worker). cond (it.number == number) 1 0) v.workers w.workers in
-                let none : covers number w.next w.unmade ≡ 0 = ap (λ size. covers number w.next size) none_left ∙ covers_none number w.next in
-                let nothing = covers_none number 0 in
-                omega (arith, counts, none, nothing))
+            let counts = sum_by-append (λ (it : Worker). cond (it.number == number) 1 0) v.workers w.workers in
+            let none : covers number w.next w.unmade ≡ 0 = ap (λ size. covers number w.next size) none_left ∙ covers_none number w.next in
+            let nothing = covers_none number 0 in
+            omega (arith, counts, none, nothing))
             (let long = length-append v.workers w.workers in omega (arith, long, none_left));
       };
 }

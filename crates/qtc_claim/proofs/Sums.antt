@@ -47,8 +47,8 @@ module _ (number : ℕ) where
   times_raw (addition ∷ additions) =
       let rest = times_raw additions in
       sum_by-cons (λ (range : ℕ × ℕ). cond (in_range number range) 1 0) (raw addition) (map raw additions)
-          ∙ ap (λ k. covering number addition + k) rest
-          ∙ sym (sum_by-cons (covering number) addition additions)
+      ∙ ap (λ k. covering number addition + k) rest
+      ∙ sym (sum_by-cons (covering number) addition additions)
 
   clips_below : (n : ℕ) (addition : Addition) → number < n → cond {A = ℕ} (in_range number (clipped n addition)) 1 0 ≡ covering number addition
   clips_below n addition below = grind (arith, nat_tests)
@@ -62,8 +62,8 @@ module _ (number : ℕ) where
       let rest = times_below n additions below in
       let one = clips_below n addition below in
       sum_by-cons (λ (range : ℕ × ℕ). cond (in_range number range) 1 0) (clipped n addition) (map (clipped n) additions)
-          ∙ omega arith
-          ∙ sym (sum_by-cons (covering number) addition additions)
+      ∙ omega arith
+      ∙ sym (sum_by-cons (covering number) addition additions)
 
   pub times_past : (n : ℕ) (additions : List Addition) → n ≤ number → times_covered (map (clipped n) additions) number ≡ 0
   times_past n [] past = refl
@@ -78,8 +78,8 @@ of_claims weight [] = refl
 of_claims weight (worker ∷ workers) =
     let rest = of_claims weight workers in
     sum_by-append weight worker.claims (claims_of workers)
-        ∙ omega arith
-        ∙ sym (sum_by-cons (λ (it : Worker). sum_by weight it.claims) worker workers)
+    ∙ omega arith
+    ∙ sym (sum_by-cons (λ (it : Worker). sum_by weight it.claims) worker workers)
 
 pub apart_from : (n : ℕ) (additions : List Addition) → ((number : ℕ) → sum_by (covering number) additions ≤ 1) → MeetNowhere n additions
 apart_from n additions apart = record {

@@ -1,4 +1,5 @@
--- Claimed ranges (own). Workers add to one counter; an addition claims the numbers from the counter as it was up to what it became.
+-- Claimed ranges (own). Workers add to one counter; an addition claims the numbers from the counter as it was up to
+-- what it became.
 use Rattle.std.specs.Prelude.{ℕ, ◌+◌, ◌≤◌, cond, nat_le, List, ◌++◌, [], ◌∷◌, map, sum_by}
 use Rattle.std.specs.List.{flat_map}
 use Rattle.qtc_base.specs.Ranges.{times_covered, clip}
@@ -12,6 +13,12 @@ most_workers = 32
 
 abbrev pub most_size : ℕ
 most_size = 65536
+
+-- n indexes, and so many workers, within the limits
+pub record IsWithinLimits (n workers : ℕ) : Type 0 where
+  pub indexes : n ≤ most_indexes
+  pub one : 1 ≤ workers
+  pub few : workers ≤ most_workers
 
 -- one addition of `size`, made where the counter was `begin`
 pub record Addition : Type 0 where
@@ -37,12 +44,13 @@ added additions = sum_by (λ addition. addition.size) additions
 abbrev pub added_past : ℕ → List Addition → ℕ
 added_past n additions = sum_by (λ addition. cond (nat_le n addition.begin) addition.size 0) additions
 
--- no number is claimed by two of them, nor by one twice; cut at n they do as little
+-- each number is claimed by one of them at most; so is each index, of what they claim below n
 pub record MeetNowhere (n : ℕ) (additions : List Addition) : Type 0 where
   pub once : (number : ℕ) → times_covered (map raw additions) number ≤ 1
   pub once_below : (number : ℕ) → times_covered (map (clipped n) additions) number ≤ 1
 
--- a worker: its number, how often it loaded the counter, the counter as it last loaded or made it, and its additions in order
+-- a worker: its number, how often it loaded the counter, the counter as it last loaded or made it, and its additions,
+-- in order
 pub record Worker : Type 0 where
   pub number : ℕ
   pub loads : ℕ

@@ -7,9 +7,9 @@ use Rattle.qtc_claim.specs.declared.piece.Piece.TheInside as piece
 use Rattle.qtc_claim.specs.declared.tally.Tally.TheInside as tally
 use Rattle.atomic_table.specs.declared.shared.Seat as table
 use Rattle.qtc_claim.specs.declared.rule.View.{View}
-use Rattle.qtc_claim.specs.Claims.{Addition, addition_at, Worker, new_worker, added, added_past, claims_of, clipped}
-use Rattle.qtc_claim.specs.Rule.{worker_view, piece_view, IsWithinLimits}
-use Rattle.qtc_claim.specs.Counter.{CounterId, SeatState, PieceState, TallyState, IsGathered, HasAll, IsEnd, KnowsClaims, added_by}
+use Rattle.qtc_claim.specs.Claims.{IsWithinLimits, Addition, addition_at, after_load, after_addition, Worker, new_worker, added, added_past, claims_of, clipped}
+use Rattle.qtc_claim.specs.Rule.{worker_view, piece_view}
+use Rattle.qtc_claim.specs.Counter.{CounterId, SeatState, PieceState, TallyState, Sees, IsGathered, HasAll, IsEnd, KnowsClaims, added_by}
 
 abbrev pub counter_id : counter.Inside → CounterId
 counter_id a = record { table = a.table.shared.table_id; n = a.limits.n; workers = a.limits.workers }
@@ -33,10 +33,25 @@ seat_of seat = record { of = of_seat seat; worker = worker_of seat.me.0 }
 abbrev pub seat_state : seat.Inside → SeatState
 seat_state a = seat_of a.seat
 
+-- the range in hand after an addition
+abbrev pub in_hand : ℕ → Addition → List Addition
+in_hand n addition = cond (nat_lt addition.begin n) (addition ∷ []) []
+
 -- a seat of the counter that is this worker's, with a range in hand or none
 pub record IsWorker (counter : CounterId) (worker : Worker) (held : List Addition) (seat : table.Seat (Unit {0}) View) : Type 0 where
   pub at : seat.table_id ≡ counter.table
   pub me : seat.me ≡ (worker_view counter.n counter.workers worker held, [])
+
+-- the worker of the seat loaded the counter, which was `count`
+pub record HasLoaded (counter : CounterId) (count : ℕ) (before after : table.Seat (Unit {0}) View) : Type 0 where
+  pub worker : IsWorker counter (after_load count (worker_of before.me.0)) [] after
+  pub sees : Sees counter (worker_of before.me.0) (after_load count (worker_of before.me.0))
+
+-- the worker of the seat made the addition
+pub record HasAdded (counter : CounterId) (addition : Addition) (before after : table.Seat (Unit {0}) View) : Type 0 where
+  pub worker : IsWorker counter (after_addition addition (worker_of before.me.0)) (in_hand counter.n addition) after
+  pub later : (worker_of before.me.0).seen ≤ addition.begin
+  pub sees : Sees counter (worker_of before.me.0) (after_addition addition (worker_of before.me.0))
 
 -- a worker's seat, with nothing in hand
 pub record IsSeat (a : seat.Inside) : Type 0 where
@@ -73,10 +88,6 @@ pub record IsTally (a : tally.Inside) : Type 0 where
   pub gathered : a.gathered ≡ added a.seat.me.0.held
   pub blank : a.blank ≡ added_past a.seat.me.0.n (claims_of a.seat.me.0.workers)
   pub seats : a.seats ≡ length a.seat.me.0.workers
-
--- the range in hand after an addition
-abbrev pub in_hand : ℕ → Addition → List Addition
-in_hand n addition = cond (nat_lt addition.begin n) (addition ∷ []) []
 
 -- what a tally's seat has, once it found the counter at `count`
 abbrev pub tally_of : CounterId → table.Seat (Unit {0}) View → TallyState

@@ -1,18 +1,15 @@
--- The rule of a counter's table: one word, the counter, and no slots (own). It is a few sums over all views, so that each kind of step is judged by what one or two views change.
+-- The rule of a counter's table: one word, the counter, and no slots (own). It is a few sums over all views, so that
+-- each kind of step is judged by what one or two views change.
 use Rattle.std.specs.Prelude.{◌≡◌, ℕ, ◌+◌, ◌-◌, ◌*◌, ◌<◌, ◌≤◌, ◌==◌, cond, nat_lt, nat_le, List, [], ◌∷◌, ◌++◌, map, length, sum_by, count_by, All}
 use Rattle.atomic_table.specs.Table.{State, Me}
 use Rattle.qtc_base.specs.Ranges.{in_range}
 use Rattle.qtc_claim.specs.declared.rule.View.{View}
 use Rattle.qtc_claim.specs.declared.rule.Limits.{Limits}
-use Rattle.qtc_claim.specs.Claims.{most_indexes, most_workers, most_size, Addition, addition_at, Worker, new_worker, after_load, after_addition}
+use Rattle.qtc_claim.specs.Claims.{IsWithinLimits, most_size, Addition, addition_at, Worker, new_worker, after_load, after_addition}
 
--- n indexes, for so many workers
-pub record IsWithinLimits (n workers : ℕ) : Type 0 where
-  pub indexes : n ≤ most_indexes
-  pub one : 1 ≤ workers
-  pub few : workers ≤ most_workers
-
--- Views. One shape serves all: what a seat is shows in what its view has.
+-- Views. One shape serves all: what a seat is shows in what its view has. It has the workers that it is or gathered, the
+-- ranges that it holds, and the numbers `next` and on, `unmade` of them, that it has still to give to workers. `n` and
+-- `most` are the counter's indexes and workers.
 
 -- a worker, with its range in hand or none
 abbrev pub worker_view : (n most : ℕ) → Worker → List Addition → View
@@ -22,7 +19,7 @@ worker_view n most worker held = record { n = n; most = most; next = 0; unmade =
 abbrev pub piece_view : (n most : ℕ) → List Addition → View
 piece_view n most held = record { n = n; most = most; next = 0; unmade = 0; workers = []; held = held }
 
--- the tally, before it gathered anything: it has still to give the numbers of all workers
+-- the tally, before it made a worker or gathered anything
 abbrev pub first_view : Limits → View
 first_view key = record { n = key.n; most = key.workers; next = 0; unmade = key.workers; workers = []; held = [] }
 
@@ -68,7 +65,7 @@ pub record IsRight (n count : ℕ) (view : View) : Type 0 where
   pub below : All (λ addition. addition.begin < n) view.held
 
 -- what holds of all views together, where `total` adds a measure up over them
-pub record Adds (n most count : ℕ) (total : (View → ℕ) → ℕ) : Type 0 where
+pub record AddsUp (n most count : ℕ) (total : (View → ℕ) → ℕ) : Type 0 where
   -- the ranges in hand, in pieces, gathered and blank are just those of all claims, each once
   pub once : (weight : Addition → ℕ) → total (kept n weight) ≡ total (claimed weight)
   -- the claims cover each number below the counter once, and no other
@@ -84,7 +81,7 @@ pub record Adds (n most count : ℕ) (total : (View → ℕ) → ℕ) : Type 0 w
 pub record Holds (key : Limits) (count : ℕ) (views : List View) : Type 0 where
   pub limits : IsWithinLimits key.n key.workers
   pub right : All (IsRight key.n count) views
-  pub sums : Adds key.n key.workers count (λ measure. sum_by measure views)
+  pub sums : AddsUp key.n key.workers count (λ measure. sum_by measure views)
 
 pub record IsKept (key : Limits) (s : State (Unit {0}) View) : Type 0 where
   pub count : ℕ
@@ -141,7 +138,8 @@ cut view = piece_view view.n view.most view.held
 abbrev pub gathered : View → View → View
 gathered view other = record view { workers = view.workers ++ other.workers; held = view.held ++ other.held }
 
--- What the steps that read or change the counter tell: what became of the view, that its workers saw no more than was found, and what its owner knows now.
+-- What the steps that read or change the counter tell: what became of the view, that its workers had seen no more than
+-- was found, and what its owner knows now.
 
 abbrev pub Looks : View → ℕ → View → Type 0
 Looks before found after = (after ≡ looked found before) × All (λ worker. worker.seen ≤ found) before.workers × Knows after found

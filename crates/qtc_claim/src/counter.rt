@@ -1,10 +1,10 @@
 //! The counter: one word, to which workers add.
 ghost use Rattle.std.specs.Prelude.{ℕ, ◌≡◌, ◌≤◌, ◌<◌, ◌↔◌, ◌∷◌, [], map, IfOk, IfSome, IfNone, IsTrue};
 ghost use Rattle.qtc_base.specs.Ranges.{Tiles};
-ghost use Rattle.qtc_claim.specs.Claims.{most_size, after_load, after_addition, addition_at, clipped};
-ghost use Rattle.qtc_claim.specs.Rule.{IsWithinLimits, gathered};
-ghost use Rattle.qtc_claim.specs.Counter.{IsNew, Claims, ClaimsNone, Sees, HasAll, IsEnd, KnowsClaims};
-ghost use Rattle.qtc_claim.specs.Inside.{IsWorker, worker_of, of_seat, in_hand, tally_of, HasRead};
+ghost use Rattle.qtc_claim.specs.Claims.{IsWithinLimits, most_size, after_load, addition_at, clipped};
+ghost use Rattle.qtc_claim.specs.Rule.{gathered};
+ghost use Rattle.qtc_claim.specs.Counter.{IsNew, ClaimsPiece, ClaimsNone, Sees, HasAll, IsEnd, KnowsClaims};
+ghost use Rattle.qtc_claim.specs.Inside.{IsWorker, worker_of, HasLoaded, HasAdded, of_seat, tally_of, HasRead};
 
 use crate::rule::{Add, Cut, Gather, Law, Limits, Look, Make, Read, View};
 use crate::{Piece, Seat, Tally};
@@ -34,11 +34,7 @@ impl Model for Counter {
 
 impl Counter {
     /// A counter over the indexes below `n` at 0, a seat for each of the workers, and the tally.
-    pub fn new(
-        alloc: Global,
-        n: u32,
-        workers: u32,
-    ) -> Result<(Counter, Vec<Seat>, Tally), NoMemory>
+    pub fn new(alloc: Global, n: u32, workers: u32) -> Result<(Counter, Vec<Seat>, Tally), NoMemory>
         requires { IsWithinLimits n workers }
         ensures { IfOk result (λ made. IsNew n workers made.0 made.1.items made.2) }
     {
@@ -71,7 +67,7 @@ impl Counter {
         requires of { seat.old.of ≡ self.now }
         requires size { (1 ≤ size) × (size ≤ most_size) }
         ensures of { seat.new.of ≡ self.now }
-        ensures piece { IfSome result (Claims self.now size seat.old.worker seat.new.worker) }
+        ensures piece { IfSome result (ClaimsPiece self.now size seat.old.worker seat.new.worker) }
         ensures none { IfNone result (ClaimsNone self.now.n size seat.old.worker seat.new.worker) }
         ensures sees { Sees self.now seat.old.worker seat.new.worker }
     {
@@ -117,8 +113,7 @@ impl Counter {
     // Loads the counter, for a worker.
     fn look(&self, seat: &mut table::Seat<(), View>) -> u64
         requires { IsWorker self.now (worker_of seat.old.me.0) [] seat.old }
-        ensures worker { IsWorker self.now (after_load result (worker_of seat.old.me.0)) [] seat.new }
-        ensures sees { Sees self.now (worker_of seat.old.me.0) (after_load result (worker_of seat.old.me.0)) }
+        ensures { HasLoaded self.now result seat.old seat.new }
     {
         self.table.shared.load::<Look>(seat, 0)
     }
@@ -128,13 +123,9 @@ impl Counter {
         requires worker { IsWorker self.now (worker_of seat.old.me.0) [] seat.old }
         requires size { size ≤ most_size }
         requires left { (worker_of seat.old.me.0).seen < self.now.n }
-        ensures worker { IsWorker self.now (after_addition (addition_at result size) (worker_of seat.old.me.0)) (in_hand self.now.n (addition_at result size)) seat.new }
-        ensures later { (worker_of seat.old.me.0).seen ≤ result }
-        ensures sees { Sees self.now (worker_of seat.old.me.0) (after_addition (addition_at result size) (worker_of seat.old.me.0)) }
+        ensures { HasAdded self.now (addition_at result size) seat.old seat.new }
     {
-        self.table
-            .shared
-            .fetch_add::<Add>(seat, 0, size)
+        self.table.shared.fetch_add::<Add>(seat, 0, size)
     }
 
     // Gives the range in hand away, as a piece.
@@ -171,7 +162,8 @@ impl Counter {
     pub(crate) fn join(&self, tally: &mut table::Seat<(), View>, other: table::Seat<(), View>)
         requires of { (of_seat tally.old ≡ self.now) × (tally.old.me.1 ≡ []) }
         requires other { (of_seat other ≡ self.now) × (other.me.1 ≡ []) × (other.me.0.unmade ≡ 0) }
-        ensures joined { (tally.new.table_id ≡ tally.old.table_id) × (tally.new.me ≡ (gathered tally.old.me.0 other.me.0, [])) }
+        ensures at { tally.new.table_id ≡ tally.old.table_id }
+        ensures joined { tally.new.me ≡ (gathered tally.old.me.0 other.me.0, []) }
         ensures read { (count : ℕ) × HasRead self.now count (tally_of self.now tally.new) }
     {
         self.table.shared.join_seat::<Gather>(tally, other);

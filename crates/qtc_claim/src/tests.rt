@@ -1,6 +1,5 @@
 ghost use Rattle.std.specs.Prelude.{◌≡◌, [], IfOk};
-ghost use Rattle.qtc_claim.specs.Claims.{new_worker};
-ghost use Rattle.qtc_claim.specs.Rule.{IsWithinLimits};
+ghost use Rattle.qtc_claim.specs.Claims.{IsWithinLimits, new_worker};
 
 mod called;
 
@@ -12,7 +11,10 @@ use std::test::Fail;
 // A counter for two workers.
 fn for_two(alloc: Global, n: u32) -> Result<(Counter, Seat, Seat, Tally), NoMemory>
     requires { IsWithinLimits n 2 }
-    ensures { IfOk result (λ made. (made.0.n ≡ n) × (made.1 ≡ record { of = made.0; worker = new_worker 0 }) × (made.2 ≡ record { of = made.0; worker = new_worker 1 }) × (made.3 ≡ record { of = made.0; pieces = []; workers = [] })) }
+    ensures n { IfOk result (λ made. made.0.n ≡ n) }
+    ensures first { IfOk result (λ made. made.1 ≡ record { of = made.0; worker = new_worker 0 }) }
+    ensures second { IfOk result (λ made. made.2 ≡ record { of = made.0; worker = new_worker 1 }) }
+    ensures tally { IfOk result (λ made. made.3 ≡ record { of = made.0; pieces = []; workers = [] }) }
 {
     let (counter, mut seats, tally) = Counter::new(alloc, n, 2)?;
     let second = seats.pop().unwrap();

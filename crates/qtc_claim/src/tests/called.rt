@@ -1,10 +1,8 @@
 // Any number of threads claim from one counter, call a function on each index and list it. The clause of
 // `call_each` says that the lists together have each index below n once.
-ghost use Rattle.std.specs.Prelude.{◌≡◌, ℕ, ◌+◌, ◌<◌, ◌≤◌, ◌++◌, ◌∷◌, [], All, MatchResult, IfOk, OnOk, length, cond};
-ghost use Rattle.qtc_base.specs.Ranges.{in_range};
-ghost use Rattle.qtc_claim.specs.Claims.{most_size, claims_of, clipped};
-ghost use Rattle.qtc_claim.specs.Rule.{IsWithinLimits};
-ghost use Rattle.qtc_claim.specs.Laws.{times_called, AreCalls, EachOnce};
+ghost use Rattle.std.specs.Prelude.{◌≡◌, ℕ, ◌+◌, ◌<◌, ◌≤◌, ◌++◌, ◌∷◌, [], All, MatchResult, IfOk, OnOk, length};
+ghost use Rattle.qtc_claim.specs.Claims.{IsWithinLimits, most_size, claims_of, clipped};
+ghost use Rattle.qtc_claim.specs.Laws.{CallsRange, AllOk, AreCalls, EachOnce};
 
 use crate::{Counter, Piece, Seat, Tally};
 use qtc_base::{NoMemory, Range};
@@ -13,6 +11,7 @@ use std::sync::atomic::AtomicU64;
 use std::sync::atomic::Ordering::SeqCst;
 use std::test::Fail;
 use std::thread::{Threads, map_vec};
+use std::time::{SystemTime, UNIX_EPOCH};
 
 // What a worker claims at once: a size that it picks anew each time.
 #[derive(Drop, Clone, Copy)]
@@ -55,7 +54,7 @@ struct Worked {
 // A call for each index of the range, and a list of them.
 fn call_range<F: Fn(u32)>(range: Range, call: &F, calls: &mut Vec<u32>) -> Result<(), NoMemory>
     requires { F.IsAlwaysCallable call.now }
-    ensures { OnOk result ((index : ℕ) → times_called calls.new.items index ≡ times_called calls.old.items index + cond (in_range index (range.begin, range.end)) 1 0) }
+    ensures { OnOk result (CallsRange calls.old.items (range.begin, range.end) calls.new.items) }
 {
     for index in range.begin..range.end {
         call(index);
@@ -137,9 +136,9 @@ fn gather_all(
     mut all: Vec<Result<Worked, NoMemory>>,
 ) -> Result<Vec<u32>, NoMemory>
     requires tally { tally.old ≡ record { of = counter.now; pieces = []; workers = [] } }
-    requires seats { All (λ told. IfOk told (λ worked. (worked.seat.of ≡ counter.now) × (counter.now.n ≤ worked.seat.worker.seen))) all.items }
-    requires calls { All (λ told. IfOk told (λ worked. AreCalls counter.now.n worked.seat.worker.claims worked.calls.items)) all.items }
-    requires pieces { All (λ told. IfOk told (λ worked. All (λ piece. piece.of ≡ counter.now) worked.pieces.items)) all.items }
+    requires seats { AllOk (λ worked. (worked.seat.of ≡ counter.now) × (counter.now.n ≤ worked.seat.worker.seen)) all.items }
+    requires calls { AllOk (λ worked. AreCalls counter.now.n worked.seat.worker.claims worked.calls.items) all.items }
+    requires pieces { AllOk (λ worked. All (λ piece. piece.of ≡ counter.now) worked.pieces.items) all.items }
     ensures of { OnOk result (tally.new.of ≡ counter.now) }
     ensures all { OnOk result (length tally.new.workers ≡ length all.items) }
     ensures past { OnOk result (All (λ worker. counter.now.n ≤ worker.seen) tally.new.workers) }
@@ -172,7 +171,8 @@ fn call_each<F: Fn(u32) + Sync, P: Fn(u64) -> Sizes + Sync, R: Threads + Sync>(
         rt,
         seats,
         &|seat: Seat| -> Result<Worked, NoMemory>
-            requires { (seat.of ≡ counter) × (seat.worker.claims ≡ []) × F.IsAlwaysCallable call.now × P.IsAlwaysCallable pick.now }
+            requires seat { (seat.of ≡ counter) × (seat.worker.claims ≡ []) }
+            requires call { F.IsAlwaysCallable call.now × P.IsAlwaysCallable pick.now }
             ensures seat { IfOk result (λ worked. (worked.seat.of ≡ counter) × (counter.n ≤ worked.seat.worker.seen)) }
             ensures calls { IfOk result (λ worked. AreCalls counter.n worked.seat.worker.claims worked.calls.items) }
             ensures pieces { IfOk result (λ worked. All (λ piece. piece.of ≡ counter) worked.pieces.items) }
@@ -184,4 +184,68 @@ fn call_each<F: Fn(u32) + Sync, P: Fn(u64) -> Sizes + Sync, R: Threads + Sync>(
     let calls = gather_all(alloc, &counter, &mut tally, all)?;
     let ended = counter.end(&mut tally);
     Ok((calls, ended))
+}
+
+// Each of the first `n` numbers stands in the list once.
+fn are_all(calls: &mut Vec<u32>, n: u32) -> Result<bool, NoMemory> {
+    calls.sort()?;
+    Ok(calls.iter().copied().eq(0..n))
+}
+
+#[test]
+fn two_threads_call_each_of_100000_indexes_once(rt: HostRuntime) -> Result<(), Fail> {
+    let hits = AtomicU64::new(0);
+    let told = call_each(
+        &rt,
+        rt.alloc(),
+        100_000,
+        2,
+        &|turn: u64| if turn == 0 {
+            Sizes::same(1)
+        } else {
+            Sizes::same(7)
+        },
+        &|_index: u32| {
+            hits.fetch_add(1, SeqCst);
+        },
+    );
+    let Ok((mut calls, ended)) = told else {
+        panic!(rt; "memory")
+    };
+    assert!(rt; ended);
+    let all = are_all(&mut calls, 100_000);
+    assert!(rt; matches!(all, Ok(true)));
+    assert_eq!(rt; hits.load(SeqCst), 100_000);
+    Ok(())
+}
+
+#[test]
+fn eight_threads_pick_sizes_anew_and_call_each_index_once(rt: HostRuntime) -> Result<(), Fail> {
+    let seed = SystemTime::now(&rt)?
+        .duration_since(UNIX_EPOCH)
+        .map_or(1, |since| since.subsec_nanos() as u64);
+    println!(rt; "seed {seed}")?;
+    let hits = AtomicU64::new(0);
+    let told = call_each(
+        &rt,
+        rt.alloc(),
+        100_000,
+        8,
+        &|turn: u64| Sizes {
+            least: 1,
+            most: 500,
+            seed: seed.wrapping_add(turn),
+        },
+        &|_index: u32| {
+            hits.fetch_add(1, SeqCst);
+        },
+    );
+    let Ok((mut calls, ended)) = told else {
+        panic!(rt; "memory")
+    };
+    assert!(rt; ended);
+    let all = are_all(&mut calls, 100_000);
+    assert!(rt; matches!(all, Ok(true)));
+    assert_eq!(rt; hits.load(SeqCst), 100_000);
+    Ok(())
 }

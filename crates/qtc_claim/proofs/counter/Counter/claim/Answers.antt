@@ -1,6 +1,5 @@
 use Rattle.std.proofs.Common.{◌≡◌, ◌≤◌, ◌+◌, ◌<◌, ◌^◌, ◌++◌, ◌∷◌, [], arith, ap, subst}
-use Rattle.qtc_claim.specs.Claims.{Worker, addition_at, after_load, after_addition, added}
-use Rattle.qtc_claim.specs.Rule.{IsWithinLimits}
+use Rattle.qtc_claim.specs.Claims.{IsWithinLimits, Worker, addition_at, after_load, after_addition, added}
 use Rattle.qtc_claim.specs.Inside.{worker_of}
 use Rattle.qtc_claim.proofs.Seats.{in_word, past_within, worker_is, claim_gives}
 use Rattle.qtc_claim.proofs.counter.Counter.claim.Goals as goal
@@ -21,12 +20,12 @@ overflow_add-seat-then-begin-n c =
 pub returns-clause-piece : goal.returns-clause-piece
 returns-clause-piece c =
     claim_gives c.args.self.now c.args.size c.add-begin.result c.look.result c.args.seat.now.worker (worker_of c.seat.inside.seat.me.0) (worker_of c.look.new.seat.me.0)
-        (worker_of c.add-begin.new.seat.me.0) (worker_of c.cut.new.seat.me.0) c.cut.result
-        (ap (λ l. l.worker) c.seat.view_is)
-        (worker_is _ _ _ c.look.new.seat c.look.ensures.worker)
-        (worker_is _ _ _ c.add-begin.new.seat c.add-begin.ensures.worker)
-        (worker_is _ _ _ c.cut.new.seat c.cut.ensures.worker)
-        c.cut.ensures.piece
-        c.look.ensures.sees.later
-        c.add-begin.ensures.later
-        (subst (λ l. c.add-begin.result < l.n) c.self.view_is c.if-begin-n.false)
+    (worker_of c.add-begin.new.seat.me.0) (worker_of c.cut.new.seat.me.0) c.cut.result
+    (ap (λ l. l.worker) c.seat.view_is)
+    (worker_is _ _ _ c.look.new.seat c.look.ensures.worker)
+    (worker_is _ _ _ c.add-begin.new.seat c.add-begin.ensures.worker)
+    (worker_is _ _ _ c.cut.new.seat c.cut.ensures.worker)
+    c.cut.ensures.piece
+    c.look.ensures.sees.later
+    c.add-begin.ensures.later
+    (subst (λ l. c.add-begin.result < l.n) c.self.view_is c.if-begin-n.false)

@@ -19,7 +19,7 @@ loop-made-preserved c =
     let split = c.split_seat-seat.ensures in
     let state : ℕ → SeatState = λ i. record { of = record { table = c.in_ok-table.table.shared.table_id; n = c.args.n; workers = c.args.workers }; worker = new_worker i } in
     let next : seat_of c.split_seat-seat.result ≡ state c.loop-made._made =
-          new_seat c.split_seat-seat.result _ c.loop-made.tally.me.0 _ _ _ (split.3 ∙ is.at) split.4 is.n is.most is.next
+    new_seat c.split_seat-seat.result _ c.loop-made.tally.me.0 _ _ _ (split.3 ∙ is.at) split.4 is.n is.most is.next
     in
     record {
       at = search rules;

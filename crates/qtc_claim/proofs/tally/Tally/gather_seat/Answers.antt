@@ -8,7 +8,7 @@ overflow_add-self-2 c =
     let few = read.limits.few in
     let count = read.gathered.count in
     let seats = c.self.invariant.seats in
-    let joined : length c.join.new.tally.me.0.workers ≡ length (c.self.inside.seat.me.0.workers ++ c.seat.inside.seat.me.0.workers) = ap (λ m. length m.0.workers) c.join.ensures.joined.1 in
+    let joined : length c.join.new.tally.me.0.workers ≡ length (c.self.inside.seat.me.0.workers ++ c.seat.inside.seat.me.0.workers) = ap (λ m. length m.0.workers) c.join.ensures.joined in
     let long = length-append c.self.inside.seat.me.0.workers c.seat.inside.seat.me.0.workers in
     let one : length c.seat.inside.seat.me.0.workers ≡ 1 = ap (λ m. length m.0.workers) c.seat.invariant.me in
     omega arith

@@ -8,7 +8,7 @@ use Rattle.qtc_claim.proofs.tests.called.gather_all.Goals as goal
 pub gather_one-requires-clause-calls : goal.gather_one-requires-clause-calls
 gather_one-requires-clause-calls c =
     popped_ok (λ worked. AreCalls c.args.counter.now.n worked.seat.worker.claims worked.calls.items) c.loop-told.all.items c.pop.new.self.items c.pop.result c.in_ok-told.field-0
-        c.pop.ensures.items c.loop-told.invariant.calls_left (c.in-Some.is ∙ ap Some c.in_ok-told.was)
+    c.pop.ensures.items c.loop-told.invariant.calls_left (c.in-Some.is ∙ ap Some c.in_ok-told.was)
 
 pub loop-told-preserved : goal.loop-told-preserved
 loop-told-preserved c =

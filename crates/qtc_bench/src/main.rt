@@ -1,11 +1,13 @@
 //! `qtc_bench` measures calls of the libraries, as its argument asks.
 #![tactic(auto)]
 
+use claims::print_claims;
 use locks::print_locks;
 use operations::print_operations;
 use std::process::ExitCode;
 use std::{env, io};
 
+mod claims;
 mod locks;
 mod operations;
 mod tables;
@@ -16,6 +18,7 @@ mod timing;
 const USAGE: &str = "\
 usage: qtc_bench ops    the operations of jobs over 1000000 lines, ns an item
        qtc_bench lock   a lock that is known by its key beside std's, ns for a take and a put
+       qtc_bench claim  claims of 16 indexes beside a bare word, ns for a claim
 ";
 
 fn main(rt: HostRuntime) -> io::Result<ExitCode> {
@@ -29,6 +32,7 @@ fn main(rt: HostRuntime) -> io::Result<ExitCode> {
     match word.as_str() {
         "ops" if is_last => print_operations(&rt, alloc)?,
         "lock" if is_last => print_locks(&rt, alloc)?,
+        "claim" if is_last => print_claims(&rt, alloc)?,
         _ => {
             eprint!(rt; "{USAGE}")?;
             return Ok(ExitCode::from(2));

@@ -1,5 +1,5 @@
 -- The law of calls, and what a worker's loop needs.
-use Rattle.std.proofs.Common.{◌≡◌, ℕ, ◌+◌, ◌<◌, ◌≤◌, ◌==◌, cond, nat_lt, List, [], ◌∷◌, ◌++◌, map, sym, refl, ap, ◌∙◌, subst, arith, count_by, inl, inr, All, length, get_or, append-nil, Option, Result, Some, Ok, IfSome, IfOk, option_to_list}
+use Rattle.std.proofs.Common.{◌≡◌, ℕ, ◌+◌, ◌<◌, ◌≤◌, ◌==◌, cond, nat_lt, List, [], ◌∷◌, ◌++◌, map, sym, ap, ◌∙◌, subst, arith, inl, inr, All, length, get_or, append-nil, Option, Result, Some, Ok, IfSome, IfOk, option_to_list}
 use Rattle.std.proofs.lemmas.Bool.Decides.{nat_tests}
 use Rattle.std.proofs.lemmas.List.Sums.{sum_by-append, sum_by_push}
 use Rattle.std.proofs.lemmas.List.{map-append}
@@ -7,7 +7,7 @@ use Rattle.std.proofs.lemmas.List.Elements.{All-pop}
 use Rattle.std.proofs.lemmas.List.Concat.{flat_map-append}
 use native.Mathlib.Decide.{dec_lt}
 use Rattle.qtc_base.specs.Ranges.{in_range, times_covered, Tiles}
-use Rattle.qtc_claim.specs.Claims.{Addition, Worker, new_worker, claims_of, clipped, MeetNowhere}
+use Rattle.qtc_claim.specs.Claims.{Addition, Worker, new_worker, claims_of, clipped}
 use Rattle.qtc_claim.specs.Counter.{CounterId, PieceState, TallyState, ClaimsPiece, ClaimsNone, HasAll, KnowsClaims, added_by}
 use Rattle.qtc_claim.specs.Laws.{times_called, AreCalls, EachOnce, CallsComeTogether}
 

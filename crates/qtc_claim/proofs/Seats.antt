@@ -1,20 +1,18 @@
 -- What the views of seats say to those who have them.
-use Rattle.std.proofs.Common.{◌≡◌, ℕ, ◌+◌, ◌*◌, ◌^◌, ◌<◌, ◌≤◌, ◌==◌, cond, nat_lt, nat_le, List, [], ◌∷◌, ◌++◌, length, map, sym, refl, ap, ◌∙◌, subst, arith, sum_by, count_by, slice_get, Some, All}
+use Rattle.std.proofs.Common.{◌≡◌, ℕ, ◌+◌, ◌*◌, ◌^◌, ◌<◌, ◌≤◌, ◌==◌, cond, nat_lt, List, [], ◌∷◌, ◌++◌, length, map, sym, ap, ◌∙◌, subst, arith, sum_by, count_by, slice_get, Some, All}
 use Rattle.std.proofs.lemmas.Bool.Decides.{nat_tests}
 use Rattle.std.proofs.lemmas.List.Sums.{sum_by_push, sum_by-le-sum_by}
 use Rattle.std.proofs.lemmas.List.Elements.{All-head}
 use Rattle.qtc_base.specs.Ranges.{Tiles}
-use Rattle.atomic_table.specs.Table.{Me}
 use Rattle.atomic_table.specs.Seated.{TableId}
 use Rattle.qtc_claim.specs.declared.rule.View.{View}
 use Rattle.qtc_claim.specs.Claims.{IsWithinLimits, most_indexes, most_workers, most_size, Addition, addition_at, Worker, new_worker, added, added_past, claims_of, clipped, MeetNowhere, after_load, after_addition}
-use Rattle.qtc_claim.specs.Rule.{worker_view, covers, covering, blank, claimed, kept, IsRight, KnowsAll, Knows, looked, grown, made, Looks, Grows}
+use Rattle.qtc_claim.specs.Rule.{worker_view, covers, covering, blank, claimed, kept, KnowsAll, Knows, looked, grown, made, Looks, Grows}
 use Rattle.qtc_claim.specs.Counter.{CounterId, SeatState, PieceState, TallyState, Sees, ClaimsPiece, IsGathered, HasAll, IsEnd, KnowsClaims, added_by}
 use Rattle.atomic_table.specs.declared.shared.Seat.{Seat}
 use Rattle.qtc_claim.specs.declared.counter.Counter.TheInside.{Inside}
 use Rattle.qtc_claim.specs.Inside.{counter_id, IsCounter, IsWorker, worker_of, seat_of, in_hand, of_seat, tally_of, HasRead}
 use Rattle.qtc_claim.proofs.Sums.{pushed_each, of_claims, apart_from, tiles_from, covers_upto, blank_below, sum_by_none}
-use Rattle.qtc_claim.proofs.Steps.{one_seen}
 
 pub in_word : (count n workers : ℕ) → n ≤ most_indexes → workers ≤ most_workers → count ≤ n + most_size * workers → count < 2 ^ 64
 in_word count n workers a b bound = omega arith

@@ -1,19 +1,19 @@
 -- Each step on a counter keeps its rule, and what it tells.
-use Rattle.std.proofs.Common.{◌≡◌, ℕ, zero, suc, ◌+◌, ◌-◌, ◌*◌, ◌%◌, ◌^◌, ◌<◌, ◌≤◌, ◌==◌, ◌⊎◌, cond, nat_lt, nat_le, true, false, not, Bool, List, [], ◌∷◌, ◌++◌, length, get_or, set, sym, refl, ap, ◌∙◌, subst, arith, sum_by, count_by, All, inl, inr, slice_index, slice_set, length-append}
+use Rattle.std.proofs.Common.{◌≡◌, ℕ, ◌+◌, ◌*◌, ◌%◌, ◌^◌, ◌<◌, ◌≤◌, ◌==◌, cond, nat_lt, nat_le, true, false, not, Bool, List, [], ◌∷◌, ◌++◌, length, set, sym, refl, ap, ◌∙◌, subst, arith, sum_by, All, slice_index, slice_set, length-append}
 use Rattle.std.proofs.Math.Nat.{mod-eq_of_lt}
 use Rattle.std.proofs.lemmas.Bool.Decides.{nat_tests}
 use Rattle.std.proofs.lemmas.List.Sums.{sum_by-append, sum_by_push, sum_by-remove, sum_by-le-sum_by, count_by-le-length}
-use Rattle.std.proofs.lemmas.List.Elements.{All-set, All-append, All-push, All-cons, All-nil, All-weaker, All-head}
+use Rattle.std.proofs.lemmas.List.Elements.{All-set, All-append, All-cons, All-nil, All-weaker, All-head}
 use Rattle.std.specs.List.{remove}
 use mathlib.Core.Option.{some}
 use lib.ListN.{get_elem?}
-use Rattle.atomic_table.specs.Table.{State, Me, Act, Valid, keeps, homes_after, carried_after, Allows, Splits, Joins}
+use Rattle.atomic_table.specs.Table.{Me, Act, Valid, keeps, homes_after, carried_after, Allows, Splits, Joins}
 use Rattle.atomic_table.proofs.Lists.{set_here, set_else, set_again}
 use Rattle.qtc_lock.proofs.Views.{placed, All-at, All-snoc, sum_by-set_view, sum_by-snoc}
 use Rattle.qtc_claim.specs.declared.rule.View.{View}
 use Rattle.qtc_claim.specs.declared.rule.Limits.{Limits}
-use Rattle.qtc_claim.specs.Claims.{IsWithinLimits, most_indexes, most_workers, most_size, Addition, addition_at, Worker, new_worker, after_load, after_addition}
-use Rattle.qtc_claim.specs.Rule.{worker_view, piece_view, first_view, spent_view, covers, covering, blank, claimed, kept, saw, numbered, seats, IsRight, AddsUp, Holds, IsKept, KnowsAll, Knows, looked, grown, left_to_make, made, empty_handed, cut, gathered, Looks, Grows, Reads}
+use Rattle.qtc_claim.specs.Claims.{most_indexes, most_workers, most_size, Addition, addition_at, Worker, new_worker, after_load, after_addition}
+use Rattle.qtc_claim.specs.Rule.{worker_view, spent_view, covers, covering, blank, claimed, kept, saw, numbered, seats, IsRight, AddsUp, Holds, IsKept, KnowsAll, Knows, looked, grown, left_to_make, made, empty_handed, cut, gathered, Looks, Grows, Reads}
 use Rattle.qtc_claim.proofs.Sums.{covers_none, covers_one, covers_on, covers_first, sum_by_nothing}
 
 -- what a step changes: a measure of the views that it touches, before and after

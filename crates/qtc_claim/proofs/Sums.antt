@@ -1,11 +1,9 @@
 -- Sums over views, and the numbers that ranges cover.
-use Rattle.std.proofs.Common.{◌≡◌, ℕ, zero, suc, ◌+◌, ◌-◌, ◌*◌, ◌<◌, ◌≤◌, ◌==◌, ◌⊎◌, cond, nat_lt, nat_le, true, false, Bool, List, [], ◌∷◌, ◌++◌, length, map, sym, refl, ap, ◌∙◌, subst, arith, sum_by, slice_get, Some}
+use Rattle.std.proofs.Common.{◌≡◌, ℕ, zero, suc, ◌+◌, ◌-◌, ◌<◌, ◌≤◌, ◌==◌, cond, nat_lt, List, [], ◌∷◌, ◌++◌, length, map, sym, refl, ap, ◌∙◌, subst, arith, sum_by, slice_get, Some}
 use Rattle.std.proofs.lemmas.Bool.Decides.{nat_tests}
-use Rattle.std.proofs.lemmas.List.Sums.{sum_by-cons, sum_by-append, sum_by-le-sum_by, get_or-le-sum_by}
-use mathlib.Core.Option.{some}
-use lib.ListN.{get_elem?}
+use Rattle.std.proofs.lemmas.List.Sums.{sum_by-cons, sum_by-append}
 use native.Mathlib.Decide.{dec_lt}
-use Rattle.qtc_base.specs.Ranges.{in_range, times_covered, clip, Tiles}
+use Rattle.qtc_base.specs.Ranges.{in_range, times_covered, Tiles}
 use Rattle.qtc_claim.specs.Claims.{Addition, Worker, raw, clipped, claims_of, MeetNowhere}
 use Rattle.qtc_claim.specs.Rule.{covers, covering, blank}
 

@@ -1,5 +1,5 @@
 -- What contracts see of a counter, a seat, a piece and a tally, and what the calls answer (own).
-use Rattle.std.specs.Prelude.{◌≡◌, ℕ, ◌+◌, ◌*◌, ◌<◌, ◌≤◌, ◌⊎◌, ◌==◌, cond, nat_lt, List, [], ◌∷◌, ◌++◌, Some, map, length, slice_get, count_by, All}
+use Rattle.std.specs.Prelude.{◌≡◌, ℕ, ◌+◌, ◌*◌, ◌<◌, ◌≤◌, ◌⊎◌, ◌==◌, cond, nat_lt, List, [], Some, map, length, slice_get, count_by, All}
 use Rattle.atomic_table.specs.Seated.{TableId}
 use Rattle.qtc_base.specs.Ranges.{Tiles}
 use Rattle.qtc_claim.specs.Claims.{most_size, Addition, Worker, new_worker, after_load, after_addition, added, added_past, claims_of, clipped, MeetNowhere}

@@ -1,7 +1,7 @@
 -- The rule of a counter's table: one word, the counter, and no slots (own). It is a few sums over all views, so that
 -- each kind of step is judged by what one or two views change.
 use Rattle.std.specs.Prelude.{◌≡◌, ℕ, ◌+◌, ◌-◌, ◌*◌, ◌<◌, ◌≤◌, ◌==◌, cond, nat_lt, nat_le, List, [], ◌∷◌, ◌++◌, map, length, sum_by, count_by, All}
-use Rattle.atomic_table.specs.Table.{State, Me}
+use Rattle.atomic_table.specs.Table.{State}
 use Rattle.qtc_base.specs.Ranges.{in_range}
 use Rattle.qtc_claim.specs.declared.rule.View.{View}
 use Rattle.qtc_claim.specs.declared.rule.Limits.{Limits}

@@ -1,5 +1,5 @@
 use Rattle.std.proofs.Common.{◌≡◌, ◌≤◌, ◌+◌, ◌<◌, ◌^◌, ◌++◌, ◌∷◌, [], arith, ap, subst}
-use Rattle.qtc_claim.specs.Claims.{IsWithinLimits, Worker, addition_at, after_load, after_addition, added}
+use Rattle.qtc_claim.specs.Claims.{IsWithinLimits, Worker, addition_at, added}
 use Rattle.qtc_claim.specs.Inside.{worker_of}
 use Rattle.qtc_claim.proofs.Seats.{in_word, past_within, worker_is, claim_gives}
 use Rattle.qtc_claim.proofs.counter.Counter.claim.Goals as goal

@@ -1,4 +1,4 @@
-use Rattle.std.proofs.Common.{[], ap, sym, ◌∙◌, ◌<◌, subst, ◌∷◌}
+use Rattle.std.proofs.Common.{[], ◌∷◌}
 use Rattle.qtc_claim.specs.Claims.{addition_at}
 use Rattle.qtc_claim.specs.Inside.{worker_of}
 use Rattle.qtc_claim.proofs.Steps.{cuts}

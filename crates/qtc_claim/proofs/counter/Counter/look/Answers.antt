@@ -1,4 +1,4 @@
-use Rattle.std.proofs.Common.{rules, [], ap}
+use Rattle.std.proofs.Common.{[], ap}
 use Rattle.qtc_claim.specs.Inside.{worker_of}
 use Rattle.qtc_claim.proofs.Steps.{looks}
 use Rattle.qtc_claim.proofs.Seats.{at_key, look_sees, looked_worker}

@@ -1,4 +1,4 @@
-use Rattle.std.proofs.Common.{◌≡◌, ℕ, ◌≤◌, ◌+◌, ◌<◌, ◌∷◌, [], arith, ap, sym, ◌∙◌, rules, length, subst, slice_get, Some}
+use Rattle.std.proofs.Common.{◌≡◌, ℕ, arith, ap, sym, ◌∙◌, rules}
 use Rattle.qtc_claim.specs.Claims.{new_worker}
 use Rattle.qtc_claim.specs.Counter.{SeatState}
 use Rattle.qtc_claim.specs.Inside.{seat_of}

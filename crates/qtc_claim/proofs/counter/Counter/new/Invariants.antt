@@ -1,6 +1,5 @@
-use Rattle.std.proofs.Common.{◌≡◌, ◌+◌, ◌<◌, ◌≤◌, ℕ, vec_len, vec_capacity, [], slice_get, Some, length}
+use Rattle.std.proofs.Common.{◌≡◌, ◌+◌, ◌<◌, ◌≤◌, ℕ, vec_capacity, [], slice_get, Some, length}
 use Rattle.qtc_claim.specs.Claims.{new_worker}
-use Rattle.qtc_claim.specs.Rule.{first_view}
 use Rattle.qtc_claim.proofs.counter.Counter.new.Given as goal
 
 -- the tally's view has the numbers that are left, and the seats those that were given

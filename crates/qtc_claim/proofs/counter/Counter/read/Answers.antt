@@ -1,6 +1,4 @@
-use Rattle.std.proofs.Common.{ap, sym, ◌∙◌, ◌≡◌, subst, rules}
-use Rattle.qtc_claim.specs.Claims.{IsWithinLimits}
-use Rattle.qtc_claim.specs.Inside.{HasRead, tally_of}
+use Rattle.std.proofs.Common.{ap, sym, ◌∙◌, rules}
 use Rattle.qtc_claim.proofs.Steps.{reads}
 use Rattle.qtc_claim.proofs.Seats.{read_knows}
 use Rattle.qtc_claim.proofs.counter.Counter.read.Goals as goal

@@ -1,5 +1,4 @@
-use Rattle.std.proofs.Common.{◌≡◌, ◌+◌, ◌∷◌, [], ◌++◌, arith, length, length-append, ap, sym, ◌∙◌}
-use Rattle.qtc_claim.specs.Rule.{gathered}
+use Rattle.std.proofs.Common.{◌≡◌, ◌++◌, arith, length, length-append, ap}
 use Rattle.qtc_claim.proofs.tally.Tally.gather_seat.Goals as goal
 
 pub overflow_add-self-2 : goal.overflow_add-self-2

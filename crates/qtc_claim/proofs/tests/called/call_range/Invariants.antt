@@ -1,4 +1,4 @@
-use Rattle.std.proofs.Common.{◌≡◌, ◌≤◌, ℕ, ◌+◌, cond}
+use Rattle.std.proofs.Common.{◌≡◌, ℕ, ◌+◌, cond}
 use Rattle.qtc_base.specs.Ranges.{in_range}
 use Rattle.qtc_claim.specs.Laws.{times_called}
 use Rattle.qtc_claim.proofs.tests.called.call_range.Given as goal

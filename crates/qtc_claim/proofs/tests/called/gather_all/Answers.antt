@@ -1,4 +1,4 @@
-use Rattle.std.proofs.Common.{◌≡◌, ◌≤◌, ◌+◌, ◌++◌, ◌∷◌, [], All, arith, ap, ◌∙◌, sym, subst, Some, length, length-append, option_to_list}
+use Rattle.std.proofs.Common.{◌≡◌, ◌≤◌, ◌+◌, ◌∷◌, [], All, arith, ap, ◌∙◌, sym, subst, Some, length, length-append, option_to_list}
 use Rattle.std.proofs.lemmas.List.Elements.{All-push}
 use Rattle.qtc_claim.specs.Claims.{Worker}
 use Rattle.qtc_claim.specs.Laws.{AreCalls}

@@ -1,4 +1,4 @@
-use Rattle.std.proofs.Common.{◌≡◌, ℕ, ◌+◌, ◌-◌, ◌*◌, All}
+use Rattle.std.proofs.Common.{◌≡◌, ◌+◌, ◌-◌, ◌*◌, All}
 use Rattle.qtc_claim.specs.Claims.{most_size}
 use Rattle.qtc_claim.specs.Laws.{AreCalls}
 use Rattle.qtc_claim.proofs.tests.called.work.Given as goal

@@ -104,11 +104,7 @@ fn word_among<R: Wait + Threads + Sync>(rt: &R, alloc: Global, threads: usize) -
     Ok(sum_of(&parts))
 }
 
-fn counter_among<R: Wait + Threads + Sync>(
-    rt: &R,
-    alloc: Global,
-    threads: u32,
-) -> io::Result<u64> {
+fn counter_among<R: Wait + Threads + Sync>(rt: &R, alloc: Global, threads: u32) -> io::Result<u64> {
     let threads = threads.clamp(1, 32);
     let Ok((counter, seats, _tally)) = Counter::new(alloc, INDEXES, threads) else {
         return Err(AllocError.into());
@@ -132,11 +128,20 @@ pub fn print_claims<R: Wait + Threads + Sync + Clock + Print>(
     let rows = [
         Row::new("load and fetch_add, uncontended", claiming(Claim::Word)),
         Row::beside(0, "claim, uncontended", claiming(Claim::Counter)),
-        Row::new("load and fetch_add, 2 threads", claiming(Claim::WordAmong(2))),
+        Row::new(
+            "load and fetch_add, 2 threads",
+            claiming(Claim::WordAmong(2)),
+        ),
         Row::beside(2, "claim, 2 threads", claiming(Claim::CounterAmong(2))),
-        Row::new("load and fetch_add, 4 threads", claiming(Claim::WordAmong(4))),
+        Row::new(
+            "load and fetch_add, 4 threads",
+            claiming(Claim::WordAmong(4)),
+        ),
         Row::beside(4, "claim, 4 threads", claiming(Claim::CounterAmong(4))),
-        Row::new("load and fetch_add, 8 threads", claiming(Claim::WordAmong(8))),
+        Row::new(
+            "load and fetch_add, 8 threads",
+            claiming(Claim::WordAmong(8)),
+        ),
         Row::beside(6, "claim, 8 threads", claiming(Claim::CounterAmong(8))),
     ];
     print_table(rt, alloc, "claims", CLAIMS, &rows)

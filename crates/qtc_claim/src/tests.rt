@@ -37,6 +37,7 @@ fn five_indexes_claimed_in_threes_end_once_all_is_gathered(rt: HostRuntime) -> R
     let Ok((counter, mut first, mut second, mut tally)) = for_two(rt.alloc(), 5) else {
         panic!(rt; "memory")
     };
+    assert!(rt; counter.is_open(&mut first));
     let one = counter.claim(&mut first, 3);
     let two = counter.claim(&mut second, 3);
     let three = counter.claim(&mut first, 3);

@@ -1,12 +1,14 @@
 //! `qtc_bench` measures calls of the libraries, as its argument asks.
 #![tactic(auto)]
 
+use claims::print_claims;
 use locks::print_locks;
 use operations::print_operations;
 use std::process::ExitCode;
 use std::{env, io};
 use stores::{Order, print_filled, print_stores};
 
+mod claims;
 mod locks;
 mod operations;
 mod stores;
@@ -20,6 +22,7 @@ usage: qtc_bench ops    the operations of jobs over 1000000 lines, ns an item
        qtc_bench lock   a lock that is known by its key beside std's, ns for a take and a put
        qtc_bench store  a store of results, ns for an add and a get
        qtc_bench fill ascending|descending|shuffled    1000000 batches in a store
+       qtc_bench claim  claims of 16 indexes beside a bare word, ns for a claim
 ";
 
 fn main(rt: HostRuntime) -> io::Result<ExitCode> {
@@ -38,6 +41,7 @@ fn main(rt: HostRuntime) -> io::Result<ExitCode> {
         ("fill", Some("ascending")) => print_filled(&rt, alloc, Order::Ascending)?,
         ("fill", Some("descending")) => print_filled(&rt, alloc, Order::Descending)?,
         ("fill", Some("shuffled")) => print_filled(&rt, alloc, Order::Shuffled)?,
+        ("claim", None) => print_claims(&rt, alloc)?,
         _ => {
             eprint!(rt; "{USAGE}")?;
             return Ok(ExitCode::from(2));

@@ -6,6 +6,7 @@ use crate::rule::{Law, Put, Try, View};
 use atomic_table::{Refused, Seat, Table};
 use std::alloc::Global;
 use std::hint::spin_loop;
+use std::marker::Model;
 use std::sync::Wait;
 use std::thread::yield_now;
 
@@ -16,7 +17,17 @@ const SPINS: u32 = 16;
 #[derive(Drop)]
 pub struct KeyLock<S: Keyed> {
     table: Table<Option<S>, View<S::Key>, GhostKey<S::Key>, Law<S>, Global>,
-    ghost sized: { (table.shared.table_id.words ≡ 1) × (table.shared.table_id.slots ≡ 1) },
+}
+
+impl<S: Keyed> Model for KeyLock<S> {
+    ghost use Rattle.std.specs.Prelude.{◌≡◌};
+    ghost use Rattle.qtc_lock.specs.Lock.{Lock};
+
+    ghost Value = { Lock S.Key };
+
+    ghost view = { λ lock. record { table = lock.table.shared.table_id; key = lock.table.shared.key.key } };
+
+    ghost invariant = { λ lock. (lock.table.shared.table_id.words ≡ 1) × (lock.table.shared.table_id.slots ≡ 1) };
 }
 
 /// The right to put a value back, which one `take` has given and one `put` ends. It has no bytes.
@@ -24,14 +35,26 @@ pub struct Hold<S: Keyed> {
     seat: Seat<Option<S>, View<S::Key>>,
 }
 
+impl<S: Keyed> Model for Hold<S> {
+    ghost use Rattle.std.specs.Prelude.{◌≡◌, [], ◌∷◌, None};
+    ghost use Rattle.qtc_lock.specs.Lock.{Lock};
+    ghost use Rattle.qtc_lock.specs.Rule.{holding};
+
+    ghost Value = { Lock S.Key };
+
+    ghost view = { λ hold. record { table = hold.seat.table_id; key = hold.seat.me.0.key } };
+
+    ghost invariant = { λ hold. hold.seat.me ≡ (holding hold.seat.me.0.key, (0, None) ∷ []) };
+}
+
 impl<S: Keyed> KeyLock<S> {
-    ghost use Rattle.qtc_lock.specs.Lock.{key_of, IsOf};
-    ghost use Rattle.qtc_lock.specs.Rule.{idle, Has};
+    ghost use Rattle.qtc_lock.specs.Lock.{IsIdle, IsHolding, HasValue};
 
     /// A lock over the value, under the key that `N` names. `Err` is want of memory, and hands the value back.
     pub fn new<N: Names<S::Key>>(alloc: Global, value: S) -> Result<KeyLock<S>, S>
-        requires { S.fits N.key value }
-        ensures ok { IfOk result (λ lock. key_of lock ≡ N.key) }
+        requires named { N.named ≡ true }
+        requires fits { S.fits N.key value }
+        ensures ok { IfOk result (λ lock. lock.key ≡ N.key) }
         ensures err { IfErr result (λ back. back ≡ value) }
     {
         let Ok(mut slots) = Vec::with_capacity(alloc, 1) else {
@@ -48,8 +71,8 @@ impl<S: Keyed> KeyLock<S> {
     /// The value, and the right to put one back. While the value is out, it pauses a few times and then yields, each
     /// time before it looks again.
     pub fn take<R: Wait>(&self, rt: &R) -> (S, Hold<S>)
-        ensures fits { S.fits (key_of self.now) result.0 }
-        ensures hold { IsOf self.now result.1 }
+        ensures fits { S.fits self.now.key result.0 }
+        ensures hold { result.1 ≡ self.now }
     {
         let (found, seat) = self.table.shared.swap_new_seat::<Try>(0, 1);
         if found == 0 {
@@ -61,9 +84,9 @@ impl<S: Keyed> KeyLock<S> {
 
     // Takes the value out of the slot, which the seat has.
     fn gain(&self, mut seat: Seat<Option<S>, View<S::Key>>) -> (S, Hold<S>)
-        requires { (seat.table_id ≡ self.now.table.shared.table_id) × Has S.fits (key_of self.now) seat.me }
-        ensures fits { S.fits (key_of self.now) result.0 }
-        ensures hold { IsOf self.now result.1 }
+        requires { HasValue S.fits self.now seat }
+        ensures fits { S.fits self.now.key result.0 }
+        ensures hold { result.1 ≡ self.now }
     {
         let value = self.table.shared.exchange(&mut seat, 0, None).unwrap();
         (value, Hold { seat })
@@ -75,8 +98,8 @@ impl<S: Keyed> KeyLock<S> {
         rt: &R,
         mut seat: Seat<Option<S>, View<S::Key>>,
     ) -> Seat<Option<S>, View<S::Key>>
-        requires { (seat.table_id ≡ self.now.table.shared.table_id) × (seat.me ≡ (idle (key_of self.now), [])) }
-        ensures { (result.table_id ≡ self.now.table.shared.table_id) × Has S.fits (key_of self.now) result.me }
+        requires { IsIdle self.now seat }
+        ensures { HasValue S.fits self.now result }
     {
         let mut rounds = 0;
         for _ in rt.forever() {
@@ -92,18 +115,32 @@ impl<S: Keyed> KeyLock<S> {
 
     /// Gives the lock a value again, for whoever takes it next. It takes no memory and waits for nobody.
     pub fn put(&self, value: S, hold: Hold<S>)
-        requires fits { S.fits (key_of self.now) value }
-        requires hold { IsOf self.now hold }
+        requires fits { S.fits self.now.key value }
+        requires hold { hold ≡ self.now }
     {
-        let Hold { mut seat } = hold;
+        let Hold { seat } = hold;
+        self.give(value, seat);
+    }
+
+    // Lays the value into the slot, and gives the slot back. The seat that it answers shows that it did.
+    fn give(
+        &self,
+        value: S,
+        mut seat: Seat<Option<S>, View<S::Key>>,
+    ) -> Seat<Option<S>, View<S::Key>>
+        requires fits { S.fits self.now.key value }
+        requires seat { IsHolding self.now seat }
+        ensures { IsIdle self.now result }
+    {
         let out = self.table.shared.exchange(&mut seat, 0, Some(value));
         let None = out else { unreachable!() };
         self.table.shared.store::<Put>(&mut seat, 0, 0);
+        seat
     }
 
     /// Ends the lock, and gives its value. Where a `Hold` was never put back it waits for ever, as `take` would.
     pub fn close<R: Wait>(self, rt: &R) -> S
-        ensures { S.fits (key_of self) result }
+        ensures { S.fits self.key result }
     {
         let KeyLock { table } = self;
         let mut closed = table.close();

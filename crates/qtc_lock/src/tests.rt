@@ -1,5 +1,4 @@
 ghost use Rattle.std.specs.Prelude.{◌≡◌, ◌+◌, ◌^◌, ◌<◌, IfOk};
-ghost use Rattle.qtc_lock.specs.Lock.{key_of};
 
 mod seated;
 
@@ -58,13 +57,13 @@ impl Accounts {
 }
 
 fn opened(alloc: Global, left: u64, right: u64) -> Result<KeyLock<Accounts>, Accounts>
-    ensures { IfOk result (λ lock. key_of lock ≡ left + right) }
+    ensures { IfOk result (λ lock. lock.key ≡ left + right) }
 {
     KeyLock::new::<Brand>(alloc, Accounts { left, right })
 }
 
 fn shift_often<R: Wait>(rt: &R, lock: &KeyLock<Accounts>, to_right: bool)
-    requires { key_of lock.now < 2 ^ 64 }
+    requires { lock.now.key < 2 ^ 64 }
 {
     for _ in 0..5000 {
         let (accounts, hold) = lock.take(rt);
@@ -74,17 +73,17 @@ fn shift_often<R: Wait>(rt: &R, lock: &KeyLock<Accounts>, to_right: bool)
 
 // Two threads shift five thousand times each.
 fn shifted<R: Threads + Wait + Sync>(rt: &R, lock: KeyLock<Accounts>) -> Accounts
-    requires { key_of lock < 2 ^ 64 }
-    ensures { result.left + result.right ≡ key_of lock }
+    requires { lock.key < 2 ^ 64 }
+    ensures { result.left + result.right ≡ lock.key }
 {
     let shared = &lock;
     join(
         rt,
         move ||
-            requires { key_of shared.now < 2 ^ 64 }
+            requires { shared.now.key < 2 ^ 64 }
         { shift_often(rt, shared, true) },
         move ||
-            requires { key_of shared.now < 2 ^ 64 }
+            requires { shared.now.key < 2 ^ 64 }
         { shift_often(rt, shared, false) },
     );
     lock.close(rt)

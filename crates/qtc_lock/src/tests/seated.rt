@@ -1,8 +1,7 @@
 // A table of words, and a lock beside it whose value has a seat at that table.
-ghost use Rattle.std.specs.Prelude.{◌≡◌, ℕ, ◌≤◌, IfOk};
+ghost use Rattle.std.specs.Prelude.{◌≡◌, ℕ, ◌≤◌, true, IfOk, IfSome};
 ghost use Rattle.std.specs.Borrow.{ftrue};
 ghost use Rattle.atomic_table.specs.Seated.{TableId, table_id_coded};
-ghost use Rattle.qtc_lock.specs.Lock.{key_of};
 
 use crate::{KeyLock, Keyed, Names};
 use atomic_table::{Play, Seat, Table, TableRule};
@@ -37,9 +36,12 @@ impl Model for Place {
 }
 
 impl Names<Place> for Brand {
-    ghost use Rattle.std.specs.Prelude.{[]};
+    ghost use Rattle.std.specs.Prelude.{false};
+    ghost use Rattle.qtc_lock.specs.Lock.{no_table};
 
-    ghost key = { record { table = record { words = 0; slots = 0; views_name = 0; atom = 0; block = 0; offset = 0; slot_names = [] }; start = 0 } };
+    ghost key = { record { table = no_table; start = 0 } };
+
+    ghost named = { false };
 }
 
 #[derive(Drop)]
@@ -60,7 +62,7 @@ struct Tally {
     words: Words,
     lock: KeyLock<Counter>,
     ghost sized: { words.shared.table_id.words ≡ 1 },
-    ghost beside: { (key_of lock).table ≡ words.shared.table_id },
+    ghost beside: { lock.key.table ≡ words.shared.table_id },
 }
 
 // The value does not tell the start. So the caller's own name of a key has it.
@@ -69,9 +71,10 @@ fn locked<J: Names<Place>>(
     counter: Counter,
     start: u64,
 ) -> Result<KeyLock<Counter>, Counter>
+    requires named { J.named ≡ true }
     requires place { (J.key.table ≡ counter.seat.table_id) × (J.key.start ≡ start) }
     requires started { start ≤ counter.count }
-    ensures { IfOk result (λ lock. ((key_of lock).table ≡ counter.seat.table_id) × ((key_of lock).start ≡ start)) }
+    ensures { IfOk result (λ lock. (lock.key.table ≡ counter.seat.table_id) × (lock.key.start ≡ start)) }
 {
     KeyLock::new::<Brand>(alloc, counter)
 }
@@ -79,6 +82,7 @@ fn locked<J: Names<Place>>(
 impl Tally {
     fn new(alloc: Global, words: Words, seat: Seat<(), ()>, start: u64) -> Option<Tally>
         requires { (words.shared.table_id.words ≡ 1) × (seat.table_id ≡ words.shared.table_id) }
+        ensures { IfSome result (λ tally. tally.lock.key.start ≡ start) }
     {
         let counter = Counter { seat, count: start };
         match locked::<Brand>(alloc, counter, start) {
@@ -89,7 +93,7 @@ impl Tally {
 
     // Adds one to the word, by the seat under the lock, and gives the word as it was with the count before.
     fn step<R: Wait>(&self, rt: &R) -> (u64, u64)
-        ensures { (key_of self.now.lock).start ≤ result.1 }
+        ensures { self.now.lock.key.start ≤ result.1 }
     {
         let (mut counter, hold) = self.lock.take(rt);
         let found = self.words.shared.fetch_add::<Free>(&mut counter.seat, 0, 1);

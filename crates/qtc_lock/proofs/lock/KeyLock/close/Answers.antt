@@ -1,4 +1,4 @@
-use Rattle.std.proofs.Common.{ap, ◌∙◌, refl}
+use Rattle.std.proofs.Common.{ap, subst, ◌∙◌, refl}
 use mathlib.Core.Option.{some}
 use Rattle.qtc_lock.proofs.Steps.{ends, ends_with}
 use Rattle.qtc_lock.proofs.lock.KeyLock.close.Goals as goal
@@ -9,4 +9,5 @@ unwrap-value-requires g c =
 
 pub returns-then-word-eq0 : goal.returns-then-word-eq0
 returns-then-word-eq0 g c =
-    ends_with _ _ _ _ _ c.close-closed.ensures.values.2 (c.word.ensures ∙ ap some c.if-word-eq0.true) (c.take.ensures.value ∙ ap some c.unwrap-value.ensures)
+    let fits = ends_with _ _ _ _ _ c.close-closed.ensures.values.2 (c.word.ensures ∙ ap some c.if-word-eq0.true) (c.take.ensures.value ∙ ap some c.unwrap-value.ensures) in
+    subst (λ l. g.S.Keyed.fits l.key c.unwrap-value.result) c.self.view_is fits

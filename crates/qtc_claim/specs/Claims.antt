@@ -1,0 +1,78 @@
+-- Claimed ranges (own). Workers add to one counter; an addition claims the numbers from the counter as it was up to
+-- what it became.
+use Rattle.std.specs.Prelude.{ℕ, ◌+◌, ◌≤◌, cond, nat_le, List, ◌++◌, [], ◌∷◌, map, sum_by}
+use Rattle.std.specs.List.{flat_map}
+use Rattle.qtc_base.specs.Ranges.{times_covered, clip}
+
+-- the limits: indexes, workers, and what one addition adds
+abbrev pub most_indexes : ℕ
+most_indexes = 8388608
+
+abbrev pub most_workers : ℕ
+most_workers = 32
+
+abbrev pub most_size : ℕ
+most_size = 65536
+
+-- n indexes, and so many workers, within the limits
+pub record IsWithinLimits (n workers : ℕ) : Type 0 where
+  pub indexes : n ≤ most_indexes
+  pub one : 1 ≤ workers
+  pub few : workers ≤ most_workers
+
+-- one addition of `size`, made where the counter was `begin`
+pub record Addition : Type 0 where
+  pub begin : ℕ
+  pub size : ℕ
+
+abbrev pub addition_at : (begin size : ℕ) → Addition
+addition_at begin size = record { begin = begin; size = size }
+
+-- the numbers that it claims
+abbrev pub raw : Addition → ℕ × ℕ
+raw addition = (addition.begin, addition.begin + addition.size)
+
+-- those of them that are below n
+abbrev pub clipped : ℕ → Addition → ℕ × ℕ
+clipped n addition = clip addition.begin addition.size n
+
+-- what the additions added together
+abbrev pub added : List Addition → ℕ
+added additions = sum_by (λ addition. addition.size) additions
+
+-- what those of them added that began at n or past it, and so gave no piece
+abbrev pub added_past : ℕ → List Addition → ℕ
+added_past n additions = sum_by (λ addition. cond (nat_le n addition.begin) addition.size 0) additions
+
+-- each number is claimed by one of them at most; so is each index, of what they claim below n
+pub record MeetNowhere (n : ℕ) (additions : List Addition) : Type 0 where
+  pub once : (number : ℕ) → times_covered (map raw additions) number ≤ 1
+  pub once_below : (number : ℕ) → times_covered (map (clipped n) additions) number ≤ 1
+
+-- a worker: its number, how often it loaded the counter, the counter as it last loaded or made it, and its additions,
+-- in order
+pub record Worker : Type 0 where
+  pub number : ℕ
+  pub loads : ℕ
+  pub seen : ℕ
+  pub claims : List Addition
+
+abbrev pub new_worker : ℕ → Worker
+new_worker number = record { number = number; loads = 0; seen = 0; claims = [] }
+
+-- it loaded the counter, which was `count`
+abbrev pub after_load : ℕ → Worker → Worker
+after_load count worker = record { number = worker.number; loads = worker.loads + 1; seen = count; claims = worker.claims }
+
+-- it made an addition
+abbrev pub after_addition : Addition → Worker → Worker
+after_addition addition worker = record {
+  number = worker.number;
+  loads = worker.loads;
+  seen = addition.begin + addition.size;
+  claims = worker.claims ++ addition ∷ [];
+}
+
+-- all that the workers claimed
+abbrev pub claims_of : List Worker → List Addition
+claims_of workers = flat_map (λ worker. worker.claims) workers

@@ -1,0 +1,91 @@
+-- What contracts see of a counter, a seat, a piece and a tally, and what the calls answer (own).
+use Rattle.std.specs.Prelude.{◌≡◌, ℕ, ◌+◌, ◌*◌, ◌<◌, ◌≤◌, ◌⊎◌, ◌==◌, cond, nat_lt, List, [], Some, map, length, slice_get, count_by, All}
+use Rattle.atomic_table.specs.Seated.{TableId}
+use Rattle.qtc_base.specs.Ranges.{Tiles}
+use Rattle.qtc_claim.specs.Claims.{most_size, Addition, Worker, new_worker, after_load, after_addition, added, added_past, claims_of, clipped, MeetNowhere}
+
+-- which counter it is, as no other has its table; how many indexes it counts, and for how many workers
+pub record CounterId : Type 0 where
+  pub table : TableId
+  pub n : ℕ
+  pub workers : ℕ
+
+-- a seat of the counter, and the worker that has it
+pub record SeatState : Type 0 where
+  pub of : CounterId
+  pub worker : Worker
+
+-- a piece of the counter, and the addition that gave it
+pub record PieceState : Type 0 where
+  pub of : CounterId
+  pub addition : Addition
+
+-- the tally of the counter: the pieces and the workers that it gathered, in order
+pub record TallyState : Type 0 where
+  pub of : CounterId
+  pub pieces : List Addition
+  pub workers : List Worker
+
+-- the counter is for so much; there is a seat for each worker, with the numbers from 0 on; nothing was claimed or
+-- gathered
+pub record IsNew (n workers : ℕ) (counter : CounterId) (seats : List SeatState) (tally : TallyState) : Type 0 where
+  pub indexes : counter.n ≡ n
+  pub for_workers : counter.workers ≡ workers
+  pub count : length seats ≡ workers
+  pub each : (i : ℕ) → i < workers → slice_get seats i ≡ Some (record { of = counter; worker = new_worker i })
+  pub nothing : tally ≡ record { of = counter; pieces = []; workers = [] }
+
+-- what a worker knows of the counter as it saw it last: it never goes back, it passes n by at most so much for each
+-- worker, all that the worker added is in it, and what the worker claimed meets nowhere
+pub record Sees (counter : CounterId) (before after : Worker) : Type 0 where
+  pub later : before.seen ≤ after.seen
+  pub bound : after.seen ≤ counter.n + most_size * counter.workers
+  pub added : added after.claims ≤ after.seen
+  pub apart : MeetNowhere counter.n after.claims
+
+-- the worker loaded the counter, and then added `size` to it
+pub record LoadsAndAdds (size : ℕ) (before : Worker) (addition : Addition) (after : Worker) : Type 0 where
+  pub sized : addition.size ≡ size
+  pub later : before.seen ≤ addition.begin
+  pub grown : after ≡ after_addition addition (after_load before.seen before)
+
+-- a claim that gave a piece: the addition began below n
+pub record ClaimsPiece (counter : CounterId) (size : ℕ) (before after : Worker) (piece : PieceState) : Type 0 where
+  pub of : piece.of ≡ counter
+  pub below : piece.addition.begin < counter.n
+  pub adds : LoadsAndAdds size before piece.addition after
+
+-- a claim that gave none: the load gave n or more, or the addition began there
+abbrev pub ClaimsNone : (n size : ℕ) → (before after : Worker) → Type 0
+ClaimsNone n size before after =
+    ((n ≤ after.seen) × (after ≡ after_load after.seen before))
+    ⊎ ((addition : Addition) × (n ≤ addition.begin) × LoadsAndAdds size before addition after)
+
+-- what the tally's owner knows of what it gathered: the pieces meet nowhere, nor do the claims of the workers, whose
+-- numbers differ and are below the number of workers
+pub record IsGathered (counter : CounterId) (tally : TallyState) : Type 0 where
+  pub pieces : MeetNowhere counter.n tally.pieces
+  pub claims : MeetNowhere counter.n (claims_of tally.workers)
+  pub numbers : (number : ℕ) → count_by (λ worker. worker.number == number) tally.workers ≤ cond (nat_lt number counter.workers) 1 0
+  pub count : length tally.workers ≤ counter.workers
+
+-- all seats are gathered
+abbrev pub HasAll : TallyState → Type 0
+HasAll tally = length tally.workers ≡ tally.of.workers
+
+-- what all workers added together: where all seats are gathered, the counter
+abbrev pub added_by : List Worker → ℕ
+added_by workers = added (claims_of workers)
+
+-- all seats are gathered; what the gathered pieces and the additions without a piece added is all that was added; and
+-- that is n or more
+pub record IsEnd (tally : TallyState) : Type 0 where
+  pub all : HasAll tally
+  pub nothing_out : added tally.pieces + added_past tally.of.n (claims_of tally.workers) ≡ added_by tally.workers
+  pub past : tally.of.n ≤ added_by tally.workers
+
+-- what follows where all seats are gathered: no worker saw more than was added, and where that is n or more, what they
+-- claimed below n tiles 0 to n
+pub record KnowsClaims (tally : TallyState) : Type 0 where
+  pub seen : All (λ worker. worker.seen ≤ added_by tally.workers) tally.workers
+  pub tiles : tally.of.n ≤ added_by tally.workers → Tiles (map (clipped tally.of.n) (claims_of tally.workers)) tally.of.n

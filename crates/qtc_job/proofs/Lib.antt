@@ -1,3 +1,1 @@
-pub mod GrammarLemmas
-pub mod ParseLemmas
 pub mod WordLemmas

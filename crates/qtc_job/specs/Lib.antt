@@ -1,7 +1,12 @@
 -- The grammar of job files.
+pub mod Canonical
+pub mod Codes
+pub mod Forms
 pub mod Grammar
-pub mod Laws
-pub mod Names
-pub mod Refusals
-pub mod Stages
+pub mod Keywords
+pub mod Lawful
+pub mod Limits
+pub mod Lines
+pub mod Literals
+pub mod Meaning
 pub mod Words

@@ -1,16 +1,15 @@
-//! The job file: what its lines say, and where it departs from its form.
+//! The job file: what its lines say, what is wrong with them, and its canonical text.
 #![tactic(auto)]
 
 mod jobs;
-mod laws;
-mod names;
-mod parsing;
-mod stages;
+mod keywords;
 mod word_cut;
 
-pub use jobs::{BadJob, Input, Job, JobFile, ParseFault};
-pub use laws::{lines_depart_at_one_place, lines_say_one_job, read_lines_depart_nowhere};
-pub use parsing::{MOST_TEXT, parse};
+pub use jobs::{BadJob, ChainOp, Input, Job, JobFile, ParseFault};
 
-#[cfg(test)]
-mod tests;
+pub fn probe(file: &JobFile)
+    ensures { (n : ℕ) → Lawful file.now → Reads [] file.now → n ≡ n }
+{}
+ghost use Rattle.std.specs.Prelude.{◌≡◌, ℕ, []};
+ghost use Rattle.qtc_job.specs.Grammar.{Reads};
+ghost use Rattle.qtc_job.specs.Lawful.{Lawful};

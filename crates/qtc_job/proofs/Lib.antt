@@ -1,1 +1,5 @@
-pub mod WordLemmas
+pub mod LeastLemmas
+pub mod LiteralLemmas
+pub mod ManyLemmas
+pub mod FormLemmas
+pub mod KindLemmas

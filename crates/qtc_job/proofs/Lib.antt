@@ -3,3 +3,5 @@ pub mod LiteralLemmas
 pub mod ManyLemmas
 pub mod FormLemmas
 pub mod KindLemmas
+pub mod DraftLemmas
+pub mod JobLemmas

@@ -1,5 +1,5 @@
 -- What the lines of a job have said of it so far. (Own.)
-use Rattle.std.specs.Prelude.{◌≡◌, ℕ, Bool, true, false, List, [], ◌∷◌, ◌++◌, map, Option, Some, None, if◌then◌else◌}
+use Rattle.std.specs.Prelude.{◌≡◌, ℕ, Bool, true, false, List, [], ◌∷◌, ◌++◌, map as map_list, Option, Some, None, if◌then◌else◌}
 use Rattle.qtc_base.specs.Decimal.{number_of}
 use Rattle.qtc_job.specs.declared.drafts.Draft.{Draft}
 use Rattle.qtc_job.specs.declared.statements.Statement.{Statement}
@@ -22,7 +22,7 @@ pub record IsDraft (names : List (List ℕ)) (own : List Line) (draft : Draft) :
   pub filter : draft.filter ≡ kept word.Filter filter_meant own
   pub fold : draft.fold ≡ kept word.Reduce fold_meant own
   pub order : draft.order ≡ kept word.Order order_meant own
-  pub blocks : draft.blocks ≡ kept word.Blocks (map number_of) own
+  pub blocks : draft.blocks ≡ kept word.Blocks (map_list number_of) own
   pub priority : draft.priority ≡ kept word.Priority (λ args. priority_of (word_at args 0)) own
   pub cancel_after : draft.cancel_after ≡ kept word.CancelAfter (λ args. number_at args 0) own
   pub suspend_after : draft.suspend_after ≡ kept word.SuspendAfter (λ args. number_at args 0) own
@@ -59,3 +59,9 @@ IsOneOfJob word.Then = Unit {0}
 IsOneOfJob word.OnFailed = Unit {0}
 IsOneOfJob word.OnCanceled = Unit {0}
 IsOneOfJob _ = ⊥
+
+-- that which is there, where just one is
+abbrev pub one_of : {T : Type 0} → Option T → Option T → Option T
+one_of (Some a) (Some b) = None
+one_of (Some a) None = Some a
+one_of None b = b

@@ -5,11 +5,15 @@ pub mod Codes
 pub mod Drafts
 pub mod Forms
 pub mod Grammar
+pub mod Heads
 pub mod Keywords
 pub mod Lawful
 pub mod Limits
 pub mod Lines
 pub mod Literals
+pub mod Marks
 pub mod Meaning
+pub mod Readers
+pub mod Search
 pub mod Statements
 pub mod Words

@@ -125,10 +125,10 @@ abbrev pub chain_of : List Line → List ChainOp
 chain_of [] = []
 chain_of (line ∷ own) = chain_meant line ++ chain_of own
 
--- the job that its job line and its own lines say, where these are the names of the jobs above it
-abbrev pub job_of : List (List ℕ) → List (List ℕ) → List Line → Job
-job_of names args own = record {
-  name = name_of args;
+-- the job of a name that its own lines say, where these are the names of the jobs above it
+abbrev pub job_of : List (List ℕ) → List ℕ → List Line → Job
+job_of names named own = record {
+  name = named;
   input = input_meant names (args_of word.Input own);
   op = if stands word.Map own then map_meant (args_of word.Map own) else filter_meant (args_of word.Filter own);
   fold = if stands word.Reduce own then Some (fold_meant (args_of word.Reduce own)) else None;
@@ -146,7 +146,7 @@ job_of names args own = record {
 -- the jobs that lines say, below job lines with these names
 abbrev pub jobs_of : List (List ℕ) → List Line → List Job
 jobs_of names [] = []
-jobs_of names (job args ∷ below) = job_of names args (own_below below) ∷ jobs_of (names ++ name_of args ∷ []) below
+jobs_of names (job args ∷ below) = job_of names (name_of args) (own_below below) ∷ jobs_of (names ++ name_of args ∷ []) below
 jobs_of names (_ ∷ below) = jobs_of names below
 
 abbrev pub workers_of : List Line → ℕ

@@ -1,14 +1,22 @@
-ghost use Rattle.std.specs.Prelude.{◌≡◌, ℕ, ◌&&◌, List as PlainList, [], IsTrue, OnOk, OnErr};
-ghost use Rattle.qtc_job.specs.Drafts.{IsDraft, IsOneOfJob, with_statement};
+ghost use Rattle.std.specs.Prelude.{◌≡◌, ℕ, ◌&&◌, not, is_some, List as PlainList, [], ◌∷◌, OnOk, OnErr, IfOk};
+ghost use Rattle.qtc_job.specs.Drafts.{IsDraft, IsOneOfJob, one_of, with_statement};
 ghost use Rattle.qtc_job.specs.Lines.{Line};
-ghost use Rattle.qtc_job.specs.Codes.{is_single, stands};
+ghost use Rattle.qtc_job.specs.Codes.{is_single, job_codes, stands};
+ghost use Rattle.qtc_job.specs.Answers.{Gives};
+ghost use Rattle.qtc_job.specs.Marks.{IsMarks};
+ghost use Rattle.qtc_job.specs.Meaning.{job_of};
 
+use crate::codes::{LineFault, NO_INPUT, NOT_ONE_FUNCTION, ORDER_WITHOUT_FOLD};
 use crate::keywords::Keyword;
+use crate::marks::Marks;
 use crate::statements::Statement;
-use crate::{ChainOp, Input};
+use crate::{ChainOp, Input, Job};
 use qtc_base::{Bytes, List, NoMemory};
 use qtc_ops::{FoldOp, ItemOp};
 use std::alloc::Global;
+
+/// The size of the blocks of a job that names none.
+const DEFAULT_BLOCK: u32 = 16;
 
 /// What the lines of a job have said of it so far.
 #[derive(Drop)]
@@ -95,5 +103,96 @@ impl Draft {
             Keyword::Watch => self.watch,
             _ => false,
         }
+    }
+
+    /// Which of its directives the job has.
+    pub fn marks(&self) -> Marks
+        ensures { (names : PlainList (PlainList ℕ)) (own : PlainList Line) → IsDraft names own self.now → IsMarks own result }
+    {
+        Marks {
+            input: self.input.is_some(),
+            map: self.map.is_some(),
+            filter: self.filter.is_some(),
+            reduce: self.fold.is_some(),
+            order: self.order.is_some(),
+        }
+    }
+
+    /// The job of all its lines, or the least code of its job line.
+    pub fn finish(self, alloc: Global) -> Result<Job, LineFault>
+        ensures { (names : PlainList (PlainList ℕ)) (own : PlainList Line) → IsDraft names own self → Gives (job_codes own) (job_of names self.name own) result }
+    {
+        let Draft {
+            line: _,
+            name,
+            input,
+            map,
+            filter,
+            fold,
+            order,
+            blocks,
+            priority,
+            cancel_after,
+            suspend_after,
+            watch,
+            chain,
+        } = self;
+        let Some(input) = input else {
+            return Err(LineFault::Wrong(NO_INPUT));
+        };
+        let Some(op) = function_of(map, filter) else {
+            return Err(LineFault::Wrong(NOT_ONE_FUNCTION));
+        };
+        if is_order_alone(&order, &fold) {
+            return Err(LineFault::Wrong(ORDER_WITHOUT_FOLD));
+        }
+        let blocks = match blocks {
+            Some(blocks) => blocks,
+            None => default_blocks(alloc)?,
+        };
+        Ok(Job {
+            name,
+            input,
+            op,
+            fold,
+            ordered: order.unwrap_or(false),
+            blocks,
+            priority: priority.unwrap_or(0),
+            cancel_after: cancel_after.unwrap_or(0),
+            suspend_after: suspend_after.unwrap_or(0),
+            watch,
+            chain,
+        })
+    }
+}
+
+/// The one function of a job.
+fn function_of(map: Option<ItemOp>, filter: Option<ItemOp>) -> Option<ItemOp>
+    ensures { result ≡ one_of map filter }
+{
+    match map {
+        Some(op) => match filter {
+            Some(_) => None,
+            None => Some(op),
+        },
+        None => filter,
+    }
+}
+
+/// Whether there is an order and no fold.
+fn is_order_alone(order: &Option<bool>, fold: &Option<FoldOp>) -> bool
+    ensures { result ≡ (is_some order.now && not (is_some fold.now)) }
+{
+    order.is_some() && fold.is_none()
+}
+
+/// The blocks of a job that names none.
+fn default_blocks(alloc: Global) -> Result<List<u32>, NoMemory>
+    ensures { IfOk result (λ blocks. blocks ≡ 16 ∷ []) }
+{
+    let mut blocks = List::new(alloc);
+    match blocks.push(DEFAULT_BLOCK) {
+        Ok(()) => Ok(blocks),
+        Err(_) => Err(NoMemory),
     }
 }

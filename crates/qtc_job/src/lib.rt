@@ -4,12 +4,15 @@
 mod codes;
 mod drafts;
 mod earlier_jobs;
+mod heads;
 mod inputs;
 mod jobs;
 mod keywords;
 mod literals;
+mod marks;
 mod operations;
 mod places;
+mod readers;
 mod statements;
 
 pub use jobs::{BadJob, ChainOp, Input, Job, JobFile, ParseFault};

@@ -5,3 +5,4 @@ pub mod FormLemmas
 pub mod KindLemmas
 pub mod DraftLemmas
 pub mod JobLemmas
+pub mod StepLemmas

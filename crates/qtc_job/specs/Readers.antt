@@ -4,16 +4,24 @@ use Rattle.std.specs.List.{list_any}
 use Rattle.qtc_job.specs.declared.drafts.Draft.{Draft}
 use Rattle.qtc_job.specs.declared.jobs.Job.{Job}
 use Rattle.qtc_job.specs.declared.readers.Reader.{Reader}
-use Rattle.qtc_job.specs.declared.readers.Refusal.{Refusal}
-use Rattle.qtc_job.specs.declared.readers.Refusal.TheVariants as refusal
-use Rattle.qtc_job.specs.Answers.{least}
+use Rattle.qtc_job.specs.declared.refusals.Refusal.{Refusal}
+use Rattle.qtc_job.specs.declared.refusals.Refusal.TheVariants as refusal
+use Rattle.qtc_job.specs.Answers.{least, IsLeast}
 use Rattle.qtc_job.specs.Canonical.{names_of}
-use Rattle.qtc_job.specs.Codes.{is_in_job, names_above, earlier_names, own_above, own_below, job_codes}
-use Rattle.qtc_job.specs.Drafts.{IsDraft}
-use Rattle.qtc_job.specs.Lines.{Line, is_workers}
+use Rattle.qtc_job.specs.Codes.{is_in_job, names_above, earlier_names, own_above, own_below, own_codes, job_codes}
+use Rattle.qtc_job.specs.declared.keywords.Keyword.{Keyword}
+use Rattle.qtc_job.specs.Statements.{statement_of}
+use Rattle.qtc_job.specs.Drafts.{IsDraft, with_statement}
+use Rattle.qtc_job.specs.Lines.{Line, job, says, is_workers}
 use Rattle.qtc_job.specs.Marks.{IsMarks}
 use Rattle.qtc_job.specs.Meaning.{job_of, jobs_of, workers_of}
 use Rattle.qtc_job.specs.Search.{found, first_bad, settled}
+
+-- a line that is no job line and begins with no directive of a job
+abbrev pub IsUnmarked : Line → Type 0
+IsUnmarked (job args) = ⊥
+IsUnmarked (says keyword args) = ⊥
+IsUnmarked _ = Unit {0}
 
 -- ---- what is still open of the first bad pair, the workers and the jobs, at the lines that are left
 
@@ -54,15 +62,44 @@ pub record IsStep (above : List Line) (line : ℕ) (l : Line) (old new : Reader)
   pub jobs : (rest : List Line) → open_jobs old.jobs old.draft above (l ∷ rest) ≡ open_jobs new.jobs new.draft (l ∷ above) rest
 
 -- what a refusal at a line tells of the first bad pair
-abbrev pub IsRefusal : List Line → ℕ → Line → Reader → Refusal → Type 0
-IsRefusal above line l old refusal.Memory = Unit {0}
-IsRefusal above line l old (refusal.Bad bad) =
-    (rest : List Line) → open_bad old.draft above line (l ∷ rest) ≡ Some (bad.line, bad.code)
-IsRefusal above line l old (refusal.InJob job_line marks code) =
+abbrev pub IsRefusal : List Line → ℕ → Line → Option Draft → Refusal → Type 0
+IsRefusal above line l draft refusal.Memory = Unit {0}
+IsRefusal above line l draft (refusal.Bad bad) =
+    (rest : List Line) → open_bad draft above line (l ∷ rest) ≡ Some (bad.line, bad.code)
+IsRefusal above line l draft (refusal.InJob job_line marks code) =
     (own : List Line) × IsMarks own marks
-    × ((rest : List Line) → open_bad old.draft above line (l ∷ rest) ≡ settled (least (job_codes (own ++ own_below rest))) job_line code line)
+    × ((rest : List Line) → open_bad draft above line (l ∷ rest) ≡ settled (least (job_codes (own ++ own_below rest))) job_line code line)
 
 -- the answer on one line
-abbrev pub Takes : List Line → ℕ → Line → Reader → Reader → Result Unit Refusal → Type 0
+abbrev pub Takes : List Line → ℕ → Line → Reader → Reader → Result (Unit {0}) Refusal → Type 0
 Takes above line l old new (Ok done) = IsReader (l ∷ above) (line + 1) new × IsStep above line l old new
-Takes above line l old new (Err refusal) = IsRefusal above line l old refusal
+Takes above line l old new (Err refusal) = IsRefusal above line l old.draft refusal
+
+-- a reader whose last job has ended at a job line
+pub record IsClosed (above : List Line) (line : ℕ) (old new : Reader) : Type 0 where
+  pub workers : new.workers ≡ old.workers
+  pub seen : list_any is_workers above ≡ is_some new.workers
+  pub names : names_above above ≡ names_of new.jobs
+  pub draft : new.draft ≡ None
+  pub bad : (args : List (List ℕ)) (rest : List Line) → open_bad old.draft above line (job args ∷ rest) ≡ first_bad above line (job args ∷ rest)
+  pub jobs : (args : List (List ℕ)) (rest : List Line) → open_jobs old.jobs old.draft above (job args ∷ rest) ≡ new.jobs ++ jobs_of (names_of new.jobs) (job args ∷ rest)
+
+abbrev pub Closes : List Line → ℕ → Reader → Reader → Result (Unit {0}) Refusal → Type 0
+Closes above line old new (Ok done) = IsClosed above line old new
+Closes above line old new (Err refused) = (args : List (List ℕ)) → IsRefusal above line (job args) old.draft refused
+
+-- a job line that was left above has the least of these codes
+abbrev pub IsJobRefusal : List ℕ → ℕ → Refusal → Type 0
+IsJobRefusal codes line refusal.Memory = Unit {0}
+IsJobRefusal codes line (refusal.Bad bad) = (bad.line ≡ line) × IsLeast codes bad.code
+IsJobRefusal codes line (refusal.InJob job_line marks code) = ⊥
+
+-- at this line no job line above waits for its lines
+abbrev pub IsOpenAt : List Line → ℕ → Option Draft → Line → Type 0
+IsOpenAt above line draft l = (rest : List Line) → open_bad draft above line (l ∷ rest) ≡ first_bad above line (l ∷ rest)
+
+-- a draft with what a line without codes says
+abbrev pub Adds : List Line → ℕ → Keyword → List (List ℕ) → Draft → Draft → Result (Unit {0}) Refusal → Type 0
+Adds above line keyword args old new (Ok done) =
+    (own_codes above (says keyword args) ≡ []) × (new ≡ with_statement old (statement_of (earlier_names above) keyword args))
+Adds above line keyword args old new (Err refused) = IsRefusal above line (says keyword args) (Some old) refused

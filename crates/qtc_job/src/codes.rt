@@ -1,4 +1,4 @@
-ghost use Rattle.std.specs.Prelude.{◌≡◌, ℕ, List as PlainList, [], ◌++◌, ◌<◌, nat_lt, length};
+ghost use Rattle.std.specs.Prelude.{◌≡◌, ℕ, List as PlainList, [], ◌++◌, ◌<◌, nat_lt, length, None, OnOk};
 ghost use Rattle.qtc_base.specs.Words.{words_left};
 ghost use Rattle.qtc_job.specs.Answers.{Gives, IsFault, IsLeast, IsLeastSoFar};
 ghost use Rattle.qtc_job.specs.Codes.{where_};
@@ -89,7 +89,8 @@ pub fn either<T: Drop>(read: Result<T, LineFault>, other: LineFault) -> LineFaul
 
 /// What was read, unless this code of the line is wrong too.
 pub fn with_code<T: Drop>(read: Result<T, LineFault>, code: Option<u32>) -> Result<T, LineFault>
-    ensures { (codes more : PlainList ℕ) (meant : T) → Gives codes meant read → IsLeastSoFar more code → Gives (codes ++ more) meant result }
+    ensures clean { OnOk result (code ≡ None) }
+    ensures gives { (codes more : PlainList ℕ) (meant : T) → Gives codes meant read → IsLeastSoFar more code → Gives (codes ++ more) meant result }
 {
     match read {
         Err(fault) => Err(fault_with(fault, code)),

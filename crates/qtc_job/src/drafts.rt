@@ -1,12 +1,14 @@
-ghost use Rattle.std.specs.Prelude.{◌≡◌, ℕ, ◌&&◌, not, is_some, List as PlainList, [], ◌∷◌, OnOk, OnErr, IfOk};
+ghost use Rattle.std.specs.Prelude.{◌≡◌, ℕ, ◌&&◌, not, true, is_some, List as PlainList, [], ◌∷◌, OnOk, OnErr, IfOk};
 ghost use Rattle.qtc_job.specs.Drafts.{IsDraft, IsOneOfJob, one_of, with_statement};
-ghost use Rattle.qtc_job.specs.Lines.{Line};
-ghost use Rattle.qtc_job.specs.Codes.{is_single, job_codes, stands};
-ghost use Rattle.qtc_job.specs.Answers.{Gives};
+ghost use Rattle.qtc_job.specs.Lines.{Line, says};
+ghost use Rattle.qtc_job.specs.Codes.{above_codes, is_chain, is_in_job, is_single, job_codes, own_above, stands};
+ghost use Rattle.qtc_job.specs.Answers.{Gives, IsLeastSoFar};
 ghost use Rattle.qtc_job.specs.Marks.{IsMarks};
 ghost use Rattle.qtc_job.specs.Meaning.{job_of};
 
-use crate::codes::{LineFault, NO_INPUT, NOT_ONE_FUNCTION, ORDER_WITHOUT_FOLD};
+use crate::codes::{
+    CHAIN_TOO_LONG, LineFault, NO_INPUT, NOT_ONE_FUNCTION, ORDER_WITHOUT_FOLD, REPEATED,
+};
 use crate::keywords::Keyword;
 use crate::marks::Marks;
 use crate::statements::Statement;
@@ -17,6 +19,9 @@ use std::alloc::Global;
 
 /// The size of the blocks of a job that names none.
 const DEFAULT_BLOCK: u32 = 16;
+
+/// The most lines of a chain.
+const MOST_CHAIN: usize = 8;
 
 /// What the lines of a job have said of it so far.
 #[derive(Drop)]
@@ -105,6 +110,20 @@ impl Draft {
         }
     }
 
+    /// The least code of a line that begins with the word, by the lines above it in the job.
+    pub fn above_code(&self, keyword: Keyword) -> Option<u32>
+        ensures { (names args : PlainList (PlainList ℕ)) (above : PlainList Line) → is_in_job above ≡ true → IsDraft names (own_above above) self.now → IsOneOfJob keyword
+            → IsLeastSoFar (above_codes above (says keyword args)) result }
+    {
+        if self.has(keyword) {
+            return Some(REPEATED);
+        }
+        if is_chain_word(keyword) && self.chain.len() >= MOST_CHAIN {
+            return Some(CHAIN_TOO_LONG);
+        }
+        None
+    }
+
     /// Which of its directives the job has.
     pub fn marks(&self) -> Marks
         ensures { (names : PlainList (PlainList ℕ)) (own : PlainList Line) → IsDraft names own self.now → IsMarks own result }
@@ -164,6 +183,16 @@ impl Draft {
             chain,
         })
     }
+}
+
+/// Whether a line that begins with the word is one of the chain.
+fn is_chain_word(keyword: Keyword) -> bool
+    ensures { (args : PlainList (PlainList ℕ)) → IsOneOfJob keyword → result ≡ is_chain (says keyword args) }
+{
+    matches!(
+        keyword,
+        Keyword::Then | Keyword::OnFailed | Keyword::OnCanceled
+    )
 }
 
 /// The one function of a job.

@@ -13,6 +13,7 @@ mod marks;
 mod operations;
 mod places;
 mod readers;
+mod refusals;
 mod statements;
 
 pub use jobs::{BadJob, ChainOp, Input, Job, JobFile, ParseFault};

@@ -1,0 +1,4 @@
+use Rattle.qtc_job.proofs.readers.Reader.read_job.Goals as goal
+
+pub returns-in-Ok : goal.returns-in-Ok
+returns-in-Ok c = λ above is. c.open.ensures above c.args.self.now (c.in-Ok.ensures above c.args.number is)

@@ -6,3 +6,6 @@ pub mod KindLemmas
 pub mod DraftLemmas
 pub mod JobLemmas
 pub mod StepLemmas
+pub mod SearchLemmas
+pub mod MarkLemmas
+pub mod ParseLemmas

@@ -22,12 +22,13 @@ use Rattle.qtc_job.specs.Drafts.{IsDraft, IsOneOfJob, with_statement}
 use Rattle.qtc_job.specs.Forms.{workers_form, job_form, directive_form}
 use Rattle.qtc_job.specs.declared.statements.Statement.{Statement}
 use Rattle.qtc_job.specs.declared.statements.Statement.TheVariants as statements
-use Rattle.qtc_job.specs.Lines.{Line, too_long, silent, unknown, workers, job, says, begins, is_job, is_workers}
+use Rattle.qtc_job.specs.Words.{words}
+use Rattle.qtc_job.specs.Lines.{Line, line_of, line_of_words, too_long, silent, unknown, workers, job, says, begins, is_job, is_workers}
 use Rattle.qtc_job.specs.Marks.{IsMarks}
 use Rattle.qtc_job.specs.Meaning.{job_of, jobs_of, workers_of, chain_of, chain_meant, number_at}
 use Rattle.qtc_job.specs.Statements.{statement_of}
 use Rattle.qtc_job.specs.Search.{found, first_bad, settled}
-use Rattle.qtc_job.specs.Readers.{open_bad, open_workers, open_jobs, draft_names, IsDraftBelow, IsReader, IsStep, IsRefusal, IsClosed, IsUnmarked, IsJobRefusal, IsOpenAt, Adds, Takes}
+use Rattle.qtc_job.specs.Readers.{open_bad, open_workers, open_jobs, draft_names, IsDraftBelow, IsReader, IsStep, IsRefusal, IsClosed, IsUnmarked, IsJobRefusal, IsOpenAt, IsEndRefusal, Adds, Takes}
 use Rattle.qtc_job.specs.declared.refusals.Refusal.{Refusal}
 use Rattle.qtc_job.specs.declared.refusals.Refusal.TheVariants as refusal
 use Rattle.qtc_job.proofs.DraftLemmas.{draft-silent, draft-says, stands-push_other}
@@ -268,6 +269,8 @@ close-none above line r new is here ew ej ed = record {
   draft = ed;
   bad = λ args rest. rw here refl;
   jobs = λ args rest. rw (here, ej) refl;
+  end_bad = rw here refl;
+  end_jobs = rw (here, ej) (append-nil r.jobs);
 }
 
 pub close-good : (above : List Line) (line : ℕ) (r new : Reader) (draft : Draft) (j : Job) → IsReader above line r → r.draft ≡ Some draft → job_codes (own_above above) ≡ [] → j ≡ job_of (names_of r.jobs) draft.name (own_above above) → new.workers ≡ r.workers → new.jobs ≡ r.jobs ++ j ∷ [] → new.draft ≡ None → IsClosed above line r new
@@ -281,6 +284,8 @@ close-good above line r new draft j is here none e ew ej ed =
       draft = ed;
       bad = λ args rest. rw (here, append-nil (own_above above), none) refl;
       jobs = λ args rest. rw (here, append-nil (own_above above), names, ej) (ap (λ x. r.jobs ++ x ∷ jobs_of (names_of r.jobs ++ draft.name ∷ []) (job args ∷ rest)) (sym e) ∙ sym (append_assoc r.jobs (j ∷ []) (jobs_of (names_of r.jobs ++ draft.name ∷ []) (job args ∷ rest))));
+      end_bad = rw (here, append-nil (own_above above), none) refl;
+      end_jobs = rw (here, append-nil (own_above above), ej) (ap (λ x. r.jobs ++ x ∷ []) (sym e));
     }
 
 pub job-refusal : (above : List Line) (line : ℕ) (draft : Draft) (args : List (List ℕ)) (r : Refusal) → IsJobRefusal (job_codes (own_above above)) draft.line r → IsRefusal above line (job args) (Some draft) r
@@ -352,3 +357,25 @@ adds-takes above line k args r new draft after (Ok done) one is here names ew ej
     says-good above line k args r new draft after one is here a.0 grown ew ej ed
 adds-takes above line k args r new draft after (Err refused) one is here names ew ej ed a =
     subst (λ (o : Option Draft). IsRefusal above line (says k args) o refused) (sym here) a
+
+pub end-refusal : (above : List Line) (line : ℕ) (draft : Draft) (r : Refusal) → IsJobRefusal (job_codes (own_above above)) draft.line r → IsEndRefusal above line (Some draft) r
+end-refusal above line draft refusal.Memory is = tt
+end-refusal above line draft (refusal.Bad bad) is =
+    let least_is = is.1.is in
+    let some = is.1.some in
+    rw (append-nil (own_above above), least_is) (found-some bad.code draft.line None some ∙ ap (λ l. Some (l, bad.code)) (sym is.0))
+end-refusal above line draft (refusal.InJob job_line marks code) is = absurd is
+
+-- ---- a line of bytes
+
+pub line-long : (line : List ℕ) → 4096 < length line → line_of line ≡ too_long
+line-long line long = let e : ltb 4096 (length line) ≡ true = grind (arith, nat_tests) in rw e refl
+
+pub line-short : (line : List ℕ) → length line ≤ 4096 → line_of line ≡ line_of_words (words line)
+line-short line short = let e : ltb 4096 (length line) ≡ false = grind (arith, nat_tests) in rw e refl
+
+pub is-eleven : IsLeast (11 ∷ []) 11
+is-eleven = record { is = refl; some = omega arith }
+
+pub is-unknown : IsLeast (1 ∷ []) 1
+is-unknown = record { is = refl; some = omega arith }

@@ -21,3 +21,13 @@ IsOfJob _ = Unit {0}
 
 abbrev pub IsHead : Keyword → Head → Type 0
 IsHead keyword named = (args : List (List ℕ)) → directive_line (Some keyword) args ≡ head_line named args
+
+-- the head of a line, where a line that is too long is unknown
+abbrev pub IsSeen : Line → Head → Type 0
+IsSeen (job args) head.Job = Unit {0}
+IsSeen (job args) _ = ⊥
+IsSeen (says keyword args) (head.Says named) = keyword ≡ named
+IsSeen (says keyword args) _ = ⊥
+IsSeen _ head.Job = ⊥
+IsSeen _ (head.Says named) = ⊥
+IsSeen _ _ = Unit {0}

@@ -14,6 +14,7 @@ pub mod Literals
 pub mod Marks
 pub mod Meaning
 pub mod Readers
+pub mod Refusals
 pub mod Search
 pub mod Statements
 pub mod Words

@@ -3,6 +3,9 @@ use Rattle.std.specs.Prelude.{◌≡◌, ℕ, ◌+◌, ◌<◌, true, false, is_
 use Rattle.std.specs.List.{list_any}
 use Rattle.qtc_job.specs.declared.drafts.Draft.{Draft}
 use Rattle.qtc_job.specs.declared.jobs.Job.{Job}
+use Rattle.qtc_job.specs.declared.jobs.JobFile.{JobFile}
+use Rattle.qtc_job.specs.declared.jobs.ParseFault.{ParseFault}
+use Rattle.qtc_job.specs.declared.jobs.ParseFault.TheVariants as fault
 use Rattle.qtc_job.specs.declared.readers.Reader.{Reader}
 use Rattle.qtc_job.specs.declared.refusals.Refusal.{Refusal}
 use Rattle.qtc_job.specs.declared.refusals.Refusal.TheVariants as refusal
@@ -75,7 +78,7 @@ abbrev pub Takes : List Line → ℕ → Line → Reader → Reader → Result (
 Takes above line l old new (Ok done) = IsReader (l ∷ above) (line + 1) new × IsStep above line l old new
 Takes above line l old new (Err refusal) = IsRefusal above line l old.draft refusal
 
--- a reader whose last job has ended at a job line
+-- a reader whose last job has ended, at a job line or at the end of the file
 pub record IsClosed (above : List Line) (line : ℕ) (old new : Reader) : Type 0 where
   pub workers : new.workers ≡ old.workers
   pub seen : list_any is_workers above ≡ is_some new.workers
@@ -83,10 +86,19 @@ pub record IsClosed (above : List Line) (line : ℕ) (old new : Reader) : Type 0
   pub draft : new.draft ≡ None
   pub bad : (args : List (List ℕ)) (rest : List Line) → open_bad old.draft above line (job args ∷ rest) ≡ first_bad above line (job args ∷ rest)
   pub jobs : (args : List (List ℕ)) (rest : List Line) → open_jobs old.jobs old.draft above (job args ∷ rest) ≡ new.jobs ++ jobs_of (names_of new.jobs) (job args ∷ rest)
+  pub end_bad : open_bad old.draft above line [] ≡ None
+  pub end_jobs : open_jobs old.jobs old.draft above [] ≡ new.jobs
+
+-- what a refusal at the end of the file tells of the first bad pair
+abbrev pub IsEndRefusal : List Line → ℕ → Option Draft → Refusal → Type 0
+IsEndRefusal above line draft refusal.Memory = Unit {0}
+IsEndRefusal above line draft (refusal.Bad bad) = open_bad draft above line [] ≡ Some (bad.line, bad.code)
+IsEndRefusal above line draft (refusal.InJob job_line marks code) = ⊥
 
 abbrev pub Closes : List Line → ℕ → Reader → Reader → Result (Unit {0}) Refusal → Type 0
 Closes above line old new (Ok done) = IsClosed above line old new
-Closes above line old new (Err refused) = (args : List (List ℕ)) → IsRefusal above line (job args) old.draft refused
+Closes above line old new (Err refused) =
+    ((args : List (List ℕ)) → IsRefusal above line (job args) old.draft refused) × IsEndRefusal above line old.draft refused
 
 -- a job line that was left above has the least of these codes
 abbrev pub IsJobRefusal : List ℕ → ℕ → Refusal → Type 0
@@ -103,3 +115,14 @@ abbrev pub Adds : List Line → ℕ → Keyword → List (List ℕ) → Draft �
 Adds above line keyword args old new (Ok done) =
     (own_codes above (says keyword args) ≡ []) × (new ≡ with_statement old (statement_of (earlier_names above) keyword args))
 Adds above line keyword args old new (Err refused) = IsRefusal above line (says keyword args) (Some old) refused
+
+-- a fault that tells of the first bad pair
+abbrev pub IsFirst : Option (ℕ × ℕ) → ParseFault → Type 0
+IsFirst first (fault.Bad bad) = first ≡ Some (bad.line, bad.code)
+IsFirst first fault.Memory = Unit {0}
+
+-- the file that a reader has read at the end of the lines
+abbrev pub Ends : List Line → ℕ → Reader → Result JobFile ParseFault → Type 0
+Ends above line reader (Ok file) =
+    (open_bad reader.draft above line [] ≡ None) × (file.workers ≡ open_workers reader.workers []) × (file.jobs ≡ open_jobs reader.jobs reader.draft above [])
+Ends above line reader (Err refused) = IsFirst (open_bad reader.draft above line []) refused

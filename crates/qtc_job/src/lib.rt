@@ -11,9 +11,14 @@ mod keywords;
 mod literals;
 mod marks;
 mod operations;
+mod parsing;
 mod places;
 mod readers;
 mod refusals;
 mod statements;
 
 pub use jobs::{BadJob, ChainOp, Input, Job, JobFile, ParseFault};
+pub use parsing::{MOST_TEXT, parse};
+
+#[cfg(test)]
+mod tests;

@@ -8,22 +8,22 @@ use crate::drafts::Draft;
 use crate::earlier_jobs::{EarlierJob, name_code};
 use crate::heads::{Head, read_head};
 use crate::keywords::Keyword;
-use crate::marks::Marks;
 use crate::operations::read_number;
 use crate::places::{NewName, Place};
-use crate::refusals::{Refusal, add_said, refused, refused_here, refused_job, refused_outside};
+use crate::refusals::{Refusal, add_said, refused, refused_here, last_fault, refused_job, refused_outside};
 use crate::statements::read_statement;
-use crate::{BadJob, Job};
+use crate::{Job, JobFile, ParseFault};
 use qtc_base::{List, NoMemory, Words};
 use std::alloc::Global;
 
 /// The most bytes of a line of a job file, without its LF.
-const MOST_LINE: usize = 4096;
+pub const MOST_LINE: usize = 4096;
 
 const MOST_WORKERS: u32 = 32;
+const DEFAULT_WORKERS: u32 = 4;
 
 /// The bytes that part two words.
-const GAPS: &[u8] = b" \t\r";
+pub const GAPS: &[u8] = b" \t\r";
 
 /// What the lines of a job file have said so far.
 #[derive(Drop)]
@@ -44,7 +44,23 @@ impl Reader {
     ghost use Rattle.qtc_job.specs.Codes.{above_codes};
     ghost use Rattle.qtc_job.specs.Drafts.{IsOneOfJob};
     ghost use Rattle.qtc_job.specs.Lines.{Line, line_of, workers as workers_line, job as job_line, says};
-    ghost use Rattle.qtc_job.specs.Readers.{Closes, IsClosed, IsReader, Takes};
+    ghost use Rattle.qtc_job.specs.Meaning.{jobs_of, workers_of};
+    ghost use Rattle.qtc_job.specs.Search.{first_bad};
+    ghost use Rattle.qtc_job.specs.Readers.{Closes, Ends, IsClosed, IsReader, open_bad, open_jobs, open_workers, Takes};
+
+    /// A reader that has read no line.
+    pub fn new(alloc: Global) -> Reader
+        ensures start { IsReader [] 1 result }
+        ensures bad { (lines : PlainList Line) → open_bad result.draft [] 1 lines ≡ first_bad [] 1 lines }
+        ensures workers { (lines : PlainList Line) → open_workers result.workers lines ≡ workers_of lines }
+        ensures jobs { (lines : PlainList Line) → open_jobs result.jobs result.draft [] lines ≡ jobs_of [] lines }
+    {
+        Reader {
+            workers: None,
+            jobs: List::new(alloc),
+            draft: None,
+        }
+    }
 
     /// The least code of a line of workers, by the lines above it.
     fn workers_code(&self) -> Option<u32>
@@ -157,6 +173,20 @@ impl Reader {
             Head::Workers => self.read_workers(alloc, number, &mut words),
             Head::Job => self.read_job(alloc, number, &mut words),
             Head::Says(keyword) => self.read_said(alloc, number, keyword, &mut words),
+        }
+    }
+
+    /// The file of all lines.
+    pub fn finish(mut self, alloc: Global) -> Result<JobFile, ParseFault>
+        ensures { (above : PlainList Line) (line : ℕ) → IsReader above line self → Ends above line self result }
+    {
+        match self.close(alloc) {
+            Ok(()) => {
+                let workers = self.workers.unwrap_or(DEFAULT_WORKERS);
+                let Reader { jobs, .. } = self;
+                Ok(JobFile { workers, jobs })
+            }
+            Err(refusal) => Err(last_fault(refusal)),
         }
     }
 }

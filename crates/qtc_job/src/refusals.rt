@@ -1,4 +1,4 @@
-ghost use Rattle.std.specs.Prelude.{◌≡◌, ℕ, ◌<◌, List as PlainList, Option, Some, None, true, false};
+ghost use Rattle.std.specs.Prelude.{◌≡◌, ℕ, ◌<◌, [], List as PlainList, Option, Some, None, true, false};
 ghost use Rattle.qtc_job.specs.Answers.{Gives, IsFault};
 ghost use Rattle.qtc_job.specs.Codes.{earlier_names, form_codes, is_in_job, own_above, own_codes};
 ghost use Rattle.qtc_job.specs.Forms.{directive_form};
@@ -6,14 +6,14 @@ ghost use Rattle.qtc_job.specs.Statements.{statement_of};
 ghost use Rattle.qtc_job.specs.declared.drafts.Draft.{Draft};
 ghost use Rattle.qtc_job.specs.Drafts.{IsDraft, IsOneOfJob};
 ghost use Rattle.qtc_job.specs.Lines.{Line, is_job, job, says};
-ghost use Rattle.qtc_job.specs.Readers.{Adds, IsDraftBelow, IsJobRefusal, IsOpenAt, IsRefusal, IsUnmarked};
+ghost use Rattle.qtc_job.specs.Readers.{Adds, IsDraftBelow, IsEndRefusal, IsFirst, open_bad, IsJobRefusal, IsOpenAt, IsRefusal, IsUnmarked};
 
 use crate::codes::{LineFault, with_code};
 use crate::drafts::Draft;
 use crate::keywords::Keyword;
 use crate::marks::Marks;
 use crate::statements::Statement;
-use crate::{BadJob, Job};
+use crate::{BadJob, Job, ParseFault};
 
 /// Why reading ends at a line.
 #[derive(Clone, Copy)]
@@ -108,5 +108,15 @@ pub fn add_said(draft: &mut Draft, number: u32, keyword: Keyword, read: Result<S
             Err(_) => Err(Refusal::Memory),
         },
         Err(fault) => Err(refused_in(draft, keyword, number, fault)),
+    }
+}
+
+/// The fault of a file whose last job is refused at its end.
+pub fn last_fault(refusal: Refusal) -> ParseFault
+    ensures { (above : PlainList Line) (line : ℕ) (draft : Option Draft) → IsEndRefusal above line draft refusal → IsFirst (open_bad draft above line []) result }
+{
+    match refusal {
+        Refusal::Bad(bad) => ParseFault::Bad(bad),
+        _ => ParseFault::Memory,
     }
 }

@@ -17,4 +17,5 @@ pub mod Readers
 pub mod Refusals
 pub mod Search
 pub mod Statements
+pub mod Tails
 pub mod Words

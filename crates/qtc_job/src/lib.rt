@@ -16,6 +16,8 @@ mod places;
 mod readers;
 mod refusals;
 mod statements;
+mod words_of;
+mod words_out;
 
 pub use jobs::{BadJob, ChainOp, Input, Job, JobFile, ParseFault};
 pub use parsing::{MOST_TEXT, parse};

@@ -9,3 +9,4 @@ pub mod StepLemmas
 pub mod SearchLemmas
 pub mod MarkLemmas
 pub mod ParseLemmas
+pub mod LineLemmas

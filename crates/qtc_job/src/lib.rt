@@ -13,6 +13,7 @@ mod marks;
 mod operations;
 mod parsing;
 mod places;
+mod printing;
 mod readers;
 mod refusals;
 mod statements;
@@ -21,6 +22,7 @@ mod words_out;
 
 pub use jobs::{BadJob, ChainOp, Input, Job, JobFile, ParseFault};
 pub use parsing::{MOST_TEXT, parse};
+pub use printing::print;
 
 #[cfg(test)]
 mod tests;

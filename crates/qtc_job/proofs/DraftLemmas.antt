@@ -1,11 +1,8 @@
 -- What one line more says of a job.
-use Rattle.std.proofs.Common.{◌≡◌, ℕ, Bool, true, false, cond, List, [], ◌∷◌, ◌++◌, length, map as map_list, Option, Some, None, is_some, unwrap_or, refl, ap, sym, ◌∙◌, append_assoc, append-nil}
+use Rattle.std.proofs.Common.{◌≡◌, ℕ, Bool, true, false, cond, List, [], ◌∷◌, ◌++◌, map as map_list, Option, Some, None, is_some, unwrap_or, refl, ap, sym, ◌∙◌, append_assoc, append-nil}
 use Rattle.std.specs.Prelude.{◌&&◌, ◌||◌}
-use Rattle.std.specs.List.{list_any}
-use Rattle.std.proofs.lemmas.Grind.{common_steps}
 use Rattle.qtc_base.specs.Decimal.{number_of}
 use Rattle.qtc_job.specs.declared.drafts.Draft.{Draft}
-use Rattle.qtc_job.specs.declared.jobs.ChainOp.{ChainOp}
 use Rattle.qtc_job.specs.declared.keywords.Keyword.{Keyword}
 use Rattle.qtc_job.specs.declared.keywords.Keyword.TheVariants as word
 use Rattle.qtc_job.specs.Lines.{Line, silent, says, begins, args_in}

@@ -1,6 +1,6 @@
 -- The codes of a form are those of its places.
-use Rattle.std.proofs.Common.{◌≡◌, ℕ, ◌<◌, ◌≤◌, List, [], ◌∷◌, ◌++◌, length, map, take, eqb, ltb, true, false, refl, ap, sym, ◌∙◌, append_assoc, append-nil, zero, suc, arith}
-use Rattle.std.specs.List.{flat_map, zip}
+use Rattle.std.proofs.Common.{◌≡◌, ℕ, List, [], ◌∷◌, ◌++◌, length, map, take, ltb, false, refl, ap, append-nil, suc, arith}
+use Rattle.std.specs.List.{flat_map}
 use Rattle.std.proofs.lemmas.Bool.Decides.{nat_tests}
 use Rattle.qtc_job.specs.Answers.{one_codes, many_codes}
 use Rattle.qtc_job.specs.Codes.{where_, form_codes, word_codes}

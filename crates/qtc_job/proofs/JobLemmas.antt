@@ -1,14 +1,13 @@
 -- What the lines of a job come to at its end.
-use Rattle.std.proofs.Common.{◌≡◌, ℕ, ◌<◌, ◌≤◌, min, Bool, true, false, cond, List, [], ◌∷◌, ◌++◌, map as map_list, Option, Some, None, is_some, unwrap_or, refl, ap, sym, ◌∙◌, arith}
-use Rattle.std.specs.Prelude.{◌&&◌, ◌||◌, not, pos, ℤ, Ok}
+use Rattle.std.proofs.Common.{◌≡◌, ℕ, ◌≤◌, Bool, true, false, cond, List, [], ◌∷◌, ◌++◌, map as map_list, Option, Some, None, is_some, unwrap_or, refl, ap, sym, ◌∙◌, arith}
+use Rattle.std.specs.Prelude.{◌&&◌, ◌||◌, not, pos, ℤ}
 use Rattle.qtc_base.specs.Decimal.{number_of}
 use Rattle.qtc_ops.specs.declared.operations.ItemOp.{ItemOp}
-use Rattle.qtc_ops.specs.declared.fold_ops.FoldOp.{FoldOp}
 use Rattle.qtc_job.specs.declared.drafts.Draft.{Draft}
 use Rattle.qtc_job.specs.declared.jobs.Input.{Input}
 use Rattle.qtc_job.specs.declared.jobs.Job.{Job}
 use Rattle.qtc_job.specs.declared.keywords.Keyword.TheVariants as word
-use Rattle.qtc_job.specs.Answers.{least, IsLeast, Gives}
+use Rattle.qtc_job.specs.Answers.{least, IsLeast}
 use Rattle.qtc_job.specs.Codes.{where_, stands, job_codes, lacks_one_function, orders_no_fold}
 use Rattle.qtc_job.specs.Drafts.{IsDraft, one_of, kept}
 use Rattle.qtc_job.specs.Lines.{Line}

@@ -1,10 +1,8 @@
 -- The least of codes that are found one after the other.
-use Rattle.std.proofs.Common.{◌≡◌, ℕ, ◌<◌, ◌≤◌, min, List, [], ◌∷◌, ◌++◌, length, refl, ap, sym, ◌∙◌, append-nil, true, Option, Some, None, Result, Ok, Err, arith}
+use Rattle.std.proofs.Common.{◌≡◌, ℕ, ◌<◌, ◌≤◌, min, List, [], ◌∷◌, ◌++◌, length, refl, ap, append-nil, true, arith}
 use Rattle.std.specs.Prelude.{nat_lt}
 use Rattle.std.proofs.lemmas.Bool.Decides.{nat_tests}
-use Rattle.qtc_job.specs.Answers.{least, IsLeast, IsLeastSoFar, Gives}
-use Rattle.qtc_job.specs.declared.codes.LineFault.{LineFault}
-use Rattle.qtc_job.specs.declared.codes.LineFault.TheVariants.{Wrong, Memory}
+use Rattle.qtc_job.specs.Answers.{least, IsLeast}
 use Rattle.qtc_job.specs.Codes.{where_}
 
 pub least-le : (codes : List ℕ) → least codes ≤ 100
@@ -39,4 +37,3 @@ where_some word words more code e =
 
 pub is-one : (code : ℕ) → code < 100 → IsLeast (code ∷ []) code
 is-one code small = record { is = omega arith; some = small }
-

@@ -1,11 +1,10 @@
 -- Literals that are read from the front, and the test of numbers against what they are.
-use Rattle.std.proofs.Common.{◌≡◌, ℕ, Bool, true, false, List, [], ◌∷◌, ◌++◌, length, Option, Some, None, refl, ap, sym, ◌∙◌, append_assoc, append-nil, Decides, arith}
-use Rattle.std.specs.Prelude.{unwrap_or, not, if◌then◌else◌}
+use Rattle.std.proofs.Common.{◌≡◌, ℕ, false, List, [], ◌∷◌, ◌++◌, length, Option, Some, None, refl, ap, sym, ◌∙◌, append_assoc, Decides}
 use Rattle.std.specs.Str.{all_ascii_digits}
 use Rattle.std.specs.List.{All}
 use Rattle.std.specs.Char.{is_ascii_digit}
-use Rattle.std.proofs.lemmas.Bool.Decides.{Decides-by_and, nat_tests}
-use Rattle.std.proofs.lemmas.Bool.{and_parts, and_from, leb-true, le-leb, eqb-false, ne_eqb}
+use Rattle.std.proofs.lemmas.Bool.Decides.{Decides-by_and}
+use Rattle.std.proofs.lemmas.Bool.{and_parts, and_from, leb-true, le-leb, ne_eqb}
 use Rattle.qtc_base.specs.Decimal.{IsDigit, IsNumber}
 use Rattle.qtc_job.specs.Literals.{literal_of, onto, raw_value, is_raw, is_numeral, escape_value, hex_pair, hex_value}
 

@@ -1,11 +1,10 @@
 -- The words of one place up to so many, read one after the other.
-use Rattle.std.proofs.Common.{◌≡◌, ℕ, ◌+◌, ◌<◌, ◌≤◌, min, List, [], ◌∷◌, ◌++◌, length, map, take, eqb, ltb, true, false, refl, ap, sym, subst, ◌∙◌, append_assoc, append-nil, Option, Some, None, arith}
+use Rattle.std.proofs.Common.{◌≡◌, ℕ, ◌+◌, ◌≤◌, List, [], ◌∷◌, ◌++◌, length, map, take, eqb, ltb, true, false, refl, ap, sym, subst, ◌∙◌, append_assoc, append-nil, Option, Some, None, arith}
 use Rattle.std.specs.List.{flat_map}
 use Rattle.std.proofs.lemmas.Bool.{ne_eqb}
 use Rattle.std.proofs.lemmas.Bool.Decides.{nat_tests}
 use Rattle.std.proofs.lemmas.Grind.{common_steps}
-use Rattle.qtc_job.specs.Answers.{least, IsLeast, IsLeastSoFar, IsSoFar, many_codes}
-use Rattle.qtc_job.specs.Codes.{where_}
+use Rattle.qtc_job.specs.Answers.{IsLeast, IsLeastSoFar, IsSoFar, many_codes}
 use Rattle.qtc_job.proofs.LeastLemmas.{least-append}
 
 pub record IsReadTo {V : Type 0} (codes : List ℕ → List ℕ) (meant : List ℕ → V) (words left : List (List ℕ)) (most count : ℕ) (values : List V) (code : Option ℕ) : Type 0 where

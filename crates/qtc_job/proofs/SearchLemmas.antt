@@ -1,5 +1,5 @@
 -- The first bad pair is the least one.
-use Rattle.std.proofs.Common.{◌≡◌, ℕ, zero, suc, ◌+◌, ◌-◌, ◌<◌, ◌≤◌, min, Bool, true, false, cond, ltb, List, [], ◌∷◌, ◌++◌, length, take, drop, reverse, get_or, Option, Some, None, unwrap_or, refl, ap, sym, subst, ◌∙◌, append_assoc, append-nil, inl, inr, ◌⊎◌, ⊎_elim, arith}
+use Rattle.std.proofs.Common.{◌≡◌, ℕ, zero, suc, ◌+◌, ◌-◌, ◌<◌, ◌≤◌, min, Bool, true, false, cond, ltb, List, [], ◌∷◌, ◌++◌, length, take, drop, reverse, get_or, Option, Some, None, unwrap_or, refl, ap, sym, subst, ◌∙◌, append-nil, inl, inr, ◌⊎◌, ⊎_elim, arith}
 use Rattle.std.specs.Prelude.{Contains}
 use Rattle.std.proofs.lemmas.Bool.{cases_Bool, ltb-true, ltb-false}
 use Rattle.std.proofs.lemmas.Bool.Decides.{nat_tests}
@@ -8,10 +8,11 @@ use Rattle.qtc_job.specs.Answers.{least}
 use Rattle.std.specs.List.{flat_map}
 use Rattle.qtc_job.specs.Codes.{codes_on, own_codes, job_codes, own_below, above_codes, form_codes, word_codes, where_, is_unknown, ends_early, has_more_words, is_no_number, is_out_of_range, names_no_job, is_no_literal, is_no_name, is_repeated, repeats_a_name, is_a_job_too_many, is_misplaced, is_chained_too_late, lacks_input, lacks_one_function, orders_no_fold, earlier_names}
 use Rattle.qtc_job.specs.Forms.{Form, Place, placed, workers_form, job_form, directive_form}
-use Rattle.qtc_job.specs.Grammar.{IsBad, IsLeastBad, codes_at}
+use Rattle.qtc_job.specs.declared.jobs.JobFile.{JobFile}
+use Rattle.qtc_job.specs.Meaning.{file_of}
+use Rattle.qtc_job.specs.Grammar.{IsBad, IsLeastBad, Reads, codes_at}
 use Rattle.qtc_job.specs.Lines.{Line, too_long, silent, unknown, workers, job, says, is_job}
 use Rattle.qtc_job.specs.Search.{found, first_bad}
-use Rattle.qtc_job.proofs.LeastLemmas.{least-le}
 
 -- a code of a list is not below the least one
 least-contains : (codes : List ℕ) (code place : ℕ) → place < length codes → get_or codes place code ≡ code → least codes ≤ code
@@ -25,10 +26,10 @@ contains-least [] less = absurd (omega arith)
 contains-least (c ∷ codes) less = ⊎_elim
     (λ (low : ltb c (least codes) ≡ true). (0, omega arith, let e : c ≡ min c (least codes) = grind (arith, nat_tests) in e))
     (λ (high : ltb c (least codes) ≡ false).
-        let e : min c (least codes) ≡ least codes = grind (arith, nat_tests) in
-        let there = contains-least codes (omega arith) in
-        let less_there = there.1 in
-        subst (λ (n : ℕ). Contains (c ∷ codes) n) (sym e) (suc there.0, omega arith, there.2))
+    let e : min c (least codes) ≡ least codes = grind (arith, nat_tests) in
+    let there = contains-least codes (omega arith) in
+    let less_there = there.1 in
+    subst (λ (n : ℕ). Contains (c ∷ codes) n) (sym e) (suc there.0, omega arith, there.2))
     (cases_Bool (ltb c (least codes)))
 
 -- ---- every code is below 100
@@ -144,38 +145,44 @@ none-at : (above : List Line) (n : ℕ) (ls : List Line) → first_bad above n l
 none-at above n [] e j k less has = omega arith
 none-at above n (l ∷ ls) e j k less has = ⊎_elim
     (λ (here : ltb (least (codes_on above l ls)) 100 ≡ true).
-        let low : least (codes_on above l ls) < 100 = ltb-true (least (codes_on above l ls)) 100 here in
-        let f = found-here (least (codes_on above l ls)) n (first_bad (l ∷ above) (n + 1) ls) low in
-        absurd (let no_pair : None ≡ Some (n, least (codes_on above l ls)) = sym e ∙ f in cc))
+    let low : least (codes_on above l ls) < 100 = ltb-true (least (codes_on above l ls)) 100 here in
+    let f = found-here (least (codes_on above l ls)) n (first_bad (l ∷ above) (n + 1) ls) low in
+    absurd (let no_pair : None ≡ Some (n, least (codes_on above l ls)) = sym e ∙ f in cc))
     (λ (past : ltb (least (codes_on above l ls)) 100 ≡ false).
-        let rest = sym (found-later (least (codes_on above l ls)) n (first_bad (l ∷ above) (n + 1) ls) past) ∙ e in
-        none-at_place above n l ls past (none-at (l ∷ above) (n + 1) ls rest) j k less has)
+    let rest = sym (found-later (least (codes_on above l ls)) n (first_bad (l ∷ above) (n + 1) ls) past) ∙ e in
+    none-at_place above n l ls past (none-at (l ∷ above) (n + 1) ls rest) j k less has)
     (cases_Bool (ltb (least (codes_on above l ls)) 100))
 
 pub first-at : (above : List Line) (n : ℕ) (ls : List Line) (line code : ℕ) → first_bad above n ls ≡ Some (line, code) → (i : ℕ) × (line ≡ n + i) × IsFirstAt above ls i code
 first-at above n [] line code e = absurd (let no_pair : None ≡ Some (line, code) = e in cc)
 first-at above n (l ∷ ls) line code e = ⊎_elim
     (λ (here : ltb (least (codes_on above l ls)) 100 ≡ true).
-        let low : least (codes_on above l ls) < 100 = ltb-true (least (codes_on above l ls)) 100 here in
-        let f = found-here (least (codes_on above l ls)) n (first_bad (l ∷ above) (n + 1) ls) low in
-        let pair : Some (n, least (codes_on above l ls)) ≡ Some (line, code) = sym f ∙ e in
-        let same_line : n ≡ line = ap (λ (o : Option (ℕ × ℕ)). (unwrap_or o (0, 0)).0) pair in
-        let same_code : least (codes_on above l ls) ≡ code = ap (λ (o : Option (ℕ × ℕ)). (unwrap_or o (0, 0)).1) pair in
-        (0, omega arith, record {
-          within = omega arith;
-          has = subst (λ (c : ℕ). Contains (codes_on above l ls) c) same_code (contains-least (codes_on above l ls) low);
-          least_of = λ j k less has. least-first above l ls code same_code j k has;
-        }))
+    let low : least (codes_on above l ls) < 100 = ltb-true (least (codes_on above l ls)) 100 here in
+    let f = found-here (least (codes_on above l ls)) n (first_bad (l ∷ above) (n + 1) ls) low in
+    let pair : Some (n, least (codes_on above l ls)) ≡ Some (line, code) = sym f ∙ e in
+    let same_line : n ≡ line = ap (λ (o : Option (ℕ × ℕ)). (unwrap_or o (0, 0)).0) pair in
+    let same_code : least (codes_on above l ls) ≡ code = ap (λ (o : Option (ℕ × ℕ)). (unwrap_or o (0, 0)).1) pair in (
+      0,
+      omega arith,
+      record {
+        within = omega arith;
+        has = subst (λ (c : ℕ). Contains (codes_on above l ls) c) same_code (contains-least (codes_on above l ls) low);
+        least_of = λ j k less has. least-first above l ls code same_code j k has;
+      },
+    ))
     (λ (past : ltb (least (codes_on above l ls)) 100 ≡ false).
-        let rest = sym (found-later (least (codes_on above l ls)) n (first_bad (l ∷ above) (n + 1) ls) past) ∙ e in
-        let there = first-at (l ∷ above) (n + 1) ls line code rest in
-        let at_line = there.1 in
-        let within = there.2.within in
-        (suc there.0, omega arith, record {
-          within = omega arith;
-          has = subst (λ (codes : List ℕ). Contains codes code) (sym (at-suc above l ls there.0)) there.2.has;
-          least_of = λ j k less has. least-later above l ls past there.0 code there.2.least_of j k less has;
-        }))
+    let rest = sym (found-later (least (codes_on above l ls)) n (first_bad (l ∷ above) (n + 1) ls) past) ∙ e in
+    let there = first-at (l ∷ above) (n + 1) ls line code rest in
+    let at_line = there.1 in
+    let within = there.2.within in (
+      suc there.0,
+      omega arith,
+      record {
+        within = omega arith;
+        has = subst (λ (codes : List ℕ). Contains codes code) (sym (at-suc above l ls there.0)) there.2.has;
+        least_of = λ j k less has. least-later above l ls past there.0 code there.2.least_of j k less has;
+      },
+    ))
     (cases_Bool (ltb (least (codes_on above l ls)) 100))
 
 -- ---- the law, in the words of the grammar
@@ -212,3 +219,10 @@ first-least ls line code e =
           (λ (same : (f.0 ≡ m - 1) × (code ≤ k)). let at_m = same.0 in inr (omega arith, same.1))
           (f.2.least_of (m - 1) k (omega arith) (subst (λ (codes : List ℕ). Contains codes k) (codes-at ls m bad.some) bad.holds));
     }
+
+read-or-refused_at : (ls : List Line) (first : Option (ℕ × ℕ)) → first_bad [] 1 ls ≡ first → ((file : JobFile) × Reads ls file) ⊎ ((line : ℕ) × (code : ℕ) × IsLeastBad ls line code)
+read-or-refused_at ls None e = inl (file_of ls, record { good = first-none ls e; says = refl })
+read-or-refused_at ls (Some pair) e = inr (pair.0, pair.1, first-least ls pair.0 pair.1 e)
+
+pub read-or-refused : (ls : List Line) → ((file : JobFile) × Reads ls file) ⊎ ((line : ℕ) × (code : ℕ) × IsLeastBad ls line code)
+read-or-refused ls = read-or-refused_at ls (first_bad [] 1 ls) refl

@@ -1,13 +1,11 @@
 -- What one line does to what was read so far.
-use Rattle.std.proofs.Common.{◌≡◌, ℕ, ◌+◌, ◌<◌, ◌≤◌, min, Bool, true, false, cond, ltb, leb, List, [], ◌∷◌, ◌++◌, length, map, Option, Some, None, is_some, unwrap_or, Result, Ok, Err, refl, ap, sym, subst, ◌∙◌, append_assoc, append-nil, ⊎_elim, arith}
-use Rattle.std.specs.Prelude.{◌&&◌, ◌||◌, not, filter}
+use Rattle.std.proofs.Common.{◌≡◌, ℕ, ◌+◌, ◌<◌, ◌≤◌, min, Bool, true, false, ltb, leb, List, [], ◌∷◌, ◌++◌, length, Option, Some, None, is_some, Result, Ok, Err, refl, ap, sym, subst, ◌∙◌, append_assoc, append-nil, ⊎_elim, arith}
+use Rattle.std.specs.Prelude.{◌&&◌, filter}
 use Rattle.std.specs.List.{list_any}
-use Rattle.std.specs.Str.{bytes_eq}
 use Rattle.std.proofs.lemmas.Bool.{cases_Bool, true≢false, ltb-true}
 use Rattle.std.proofs.lemmas.Bool.Decides.{nat_tests}
 use Rattle.std.proofs.lemmas.Grind.{common_steps}
 use Rattle.qtc_job.specs.declared.codes.LineFault.{LineFault}
-use Rattle.qtc_job.specs.declared.codes.LineFault.TheVariants.{Wrong, Memory}
 use Rattle.qtc_job.specs.declared.drafts.Draft.{Draft}
 use Rattle.qtc_job.specs.declared.jobs.ChainOp.{ChainOp}
 use Rattle.qtc_job.specs.declared.jobs.Job.{Job}
@@ -15,24 +13,24 @@ use Rattle.qtc_job.specs.declared.keywords.Keyword.{Keyword}
 use Rattle.qtc_job.specs.declared.keywords.Keyword.TheVariants as word
 use Rattle.qtc_job.specs.declared.marks.Marks.{Marks}
 use Rattle.qtc_job.specs.declared.readers.Reader.{Reader}
-use Rattle.qtc_job.specs.Answers.{least, IsLeast, IsLeastSoFar, IsFault, Gives}
+use Rattle.qtc_job.specs.Answers.{least, IsLeast, IsFault, Gives}
 use Rattle.qtc_job.specs.Canonical.{names_of}
 use Rattle.qtc_job.specs.Codes.{where_, stands, job_codes, is_in_job, is_single, is_chain, own_above, own_below, own_codes, codes_on, above_codes, form_codes, is_repeated, names_above, earlier_names, name_of}
 use Rattle.qtc_job.specs.Drafts.{IsDraft, IsOneOfJob, with_statement}
-use Rattle.qtc_job.specs.Forms.{workers_form, job_form, directive_form}
+use Rattle.qtc_job.specs.Forms.{workers_form, directive_form}
 use Rattle.qtc_job.specs.declared.statements.Statement.{Statement}
 use Rattle.qtc_job.specs.declared.statements.Statement.TheVariants as statements
 use Rattle.qtc_job.specs.Words.{words}
 use Rattle.qtc_job.specs.Lines.{Line, line_of, line_of_words, too_long, silent, unknown, workers, job, says, begins, is_job, is_workers}
 use Rattle.qtc_job.specs.Marks.{IsMarks}
-use Rattle.qtc_job.specs.Meaning.{job_of, jobs_of, workers_of, chain_of, chain_meant, number_at}
+use Rattle.qtc_job.specs.Meaning.{job_of, jobs_of, chain_of, number_at}
 use Rattle.qtc_job.specs.Statements.{statement_of}
 use Rattle.qtc_job.specs.Search.{found, first_bad, settled}
-use Rattle.qtc_job.specs.Readers.{open_bad, open_workers, open_jobs, draft_names, IsDraftBelow, IsReader, IsStep, IsRefusal, IsClosed, IsUnmarked, IsJobRefusal, IsOpenAt, IsEndRefusal, Adds, Takes}
+use Rattle.qtc_job.specs.Readers.{open_bad, open_jobs, IsDraftBelow, IsReader, IsStep, IsRefusal, IsClosed, IsUnmarked, IsJobRefusal, IsOpenAt, IsEndRefusal, Adds, Takes}
 use Rattle.qtc_job.specs.declared.refusals.Refusal.{Refusal}
 use Rattle.qtc_job.specs.declared.refusals.Refusal.TheVariants as refusal
 use Rattle.qtc_job.proofs.DraftLemmas.{draft-silent, draft-says, stands-push_other}
-use Rattle.qtc_job.proofs.LeastLemmas.{least-append, least-le}
+use Rattle.qtc_job.proofs.LeastLemmas.{least-append}
 
 chains-one : (own : List Line) → length (filter is_chain own) ≡ length (chain_of own)
 chains-one [] = refl
@@ -199,17 +197,18 @@ nothing-is (Some n) e = cc
 pub workers-good : (above : List Line) (line : ℕ) (args : List (List ℕ)) (r new : Reader) (count : ℕ) → IsReader above line r → own_codes above (workers args) ≡ [] → count ≡ number_at args 0 → new.workers ≡ Some count → new.jobs ≡ r.jobs → new.draft ≡ r.draft → IsReader (workers args ∷ above) (line + 1) new × IsStep above line (workers args) r new
 workers-good above line args r new count is none meant ew ej ed =
     let free = none-two (list_any is_workers above) (is_in_job above) (append-nil_right (form_codes [] (workers_form args)) (above_codes above (workers args)) none) in
-    let unset = nothing-is r.workers (sym is.workers ∙ free.0) in
-    (record {
-      workers = rw ew refl;
-      names = rw (ej, ed) is.names;
-      draft = rw (ej, ed) (below-workers above line args r.jobs r.draft free.1 is.draft);
-    },
-    record {
-      bad = λ rest. rw ed (bad-workers above line args r.jobs r.draft rest free.1 is.draft none);
-      workers = λ rest. rw (unset, ew) (sym meant);
-      jobs = λ rest. rw (ej, ed) (jobs-workers above line args r.jobs r.draft rest free.1 is.draft);
-    })
+    let unset = nothing-is r.workers (sym is.workers ∙ free.0) in (
+      record {
+        workers = rw ew refl;
+        names = rw (ej, ed) is.names;
+        draft = rw (ej, ed) (below-workers above line args r.jobs r.draft free.1 is.draft);
+      },
+      record {
+        bad = λ rest. rw ed (bad-workers above line args r.jobs r.draft rest free.1 is.draft none);
+        workers = λ rest. rw (unset, ew) (sym meant);
+        jobs = λ rest. rw (ej, ed) (jobs-workers above line args r.jobs r.draft rest free.1 is.draft);
+      },
+    )
 
 -- a statement more in a job
 pub draft-line : (draft : Draft) (statement : Statement) → ((with_statement draft statement).line ≡ draft.line) × ((with_statement draft statement).name ≡ draft.name)
@@ -238,18 +237,19 @@ says-good above line k args r new draft after one is here none grown ew ej ed =
     let less = d.3 in
     let five_none = none-five (is_repeated above (says k args)) _ (append-nil_right (form_codes (earlier_names above) (directive_form k args)) (above_codes above (says k args)) none) in
     let single : (is_single k && stands k (own_above above)) ≡ false = rw d.0 at five_none in
-    let more = draft-says (names_of r.jobs) (own_above above) draft k args one d.2 single in
-    (record {
-      workers = rw ew is.workers;
-      names = rw (ej, ed, same_name) (rw here at is.names);
-      draft = rw (ej, ed) (d.0, d.1, subst (λ (x : Draft). IsDraft (names_of r.jobs) (own_above above ++ says k args ∷ []) x) (sym grown) more, omega arith);
-    },
-    record {
-      bad = λ rest. rw (here, ed, same_line) (ap (λ own. found (least (job_codes own)) draft.line (first_bad above line (says k args ∷ rest))) (own-more above (own_below rest) (says k args))
-          ∙ ap (λ later. found (least (job_codes ((own_above above ++ says k args ∷ []) ++ own_below rest))) draft.line later) (first-good above line (says k args) rest refl none));
-      workers = λ rest. rw ew refl;
-      jobs = λ rest. rw (here, ej, ed, same_name) (ap (λ own. r.jobs ++ job_of (names_of r.jobs) draft.name own ∷ jobs_of (names_of r.jobs ++ draft.name ∷ []) rest) (own-more above (own_below rest) (says k args)));
-    })
+    let more = draft-says (names_of r.jobs) (own_above above) draft k args one d.2 single in (
+      record {
+        workers = rw ew is.workers;
+        names = rw (ej, ed, same_name) (rw here at is.names);
+        draft = rw (ej, ed) (d.0, d.1, subst (λ (x : Draft). IsDraft (names_of r.jobs) (own_above above ++ says k args ∷ []) x) (sym grown) more, omega arith);
+      },
+      record {
+        bad = λ rest. rw (here, ed, same_line) (ap (λ own. found (least (job_codes own)) draft.line (first_bad above line (says k args ∷ rest))) (own-more above (own_below rest) (says k args))
+            ∙ ap (λ later. found (least (job_codes ((own_above above ++ says k args ∷ []) ++ own_below rest))) draft.line later) (first-good above line (says k args) rest refl none));
+        workers = λ rest. rw ew refl;
+        jobs = λ rest. rw (here, ej, ed, same_name) (ap (λ own. r.jobs ++ job_of (names_of r.jobs) draft.name own ∷ jobs_of (names_of r.jobs ++ draft.name ∷ []) rest) (own-more above (own_below rest) (says k args)));
+      },
+    )
 
 -- ---- job lines
 
@@ -298,13 +298,13 @@ settled-here job_code code line small =
     let same : ltb line line ≡ false = grind (arith, nat_tests) in
     ⊎_elim
     (λ (under : ltb job_code code ≡ true).
-        let lower : job_code < code = ltb-true job_code code under in
-        let real : ltb job_code 100 ≡ true = grind (arith, nat_tests) in
-        let least_is : min code job_code ≡ job_code = omega arith in
-        rw (same, under, real, least_is) refl)
+    let lower : job_code < code = ltb-true job_code code under in
+    let real : ltb job_code 100 ≡ true = grind (arith, nat_tests) in
+    let least_is : min code job_code ≡ job_code = omega arith in
+    rw (same, under, real, least_is) refl)
     (λ (over : ltb job_code code ≡ false).
-        let least_is : min code job_code ≡ code = grind (arith, nat_tests) in
-        rw (same, over, and-false (ltb job_code 100), least_is) refl)
+    let least_is : min code job_code ≡ code = grind (arith, nat_tests) in
+    rw (same, over, and-false (ltb job_code 100), least_is) refl)
     (cases_Bool (ltb job_code code))
 
 first-job : (above : List Line) (line : ℕ) (args : List (List ℕ)) (rest : List Line) (code : ℕ) → IsLeast (own_codes above (job args)) code → first_bad above line (job args ∷ rest) ≡ settled (least (job_codes (own_below rest))) line code line
@@ -327,17 +327,18 @@ pub first-open : (above : List Line) (line : ℕ) (args : List (List ℕ)) (draf
 first-open above line args draft code at is rest = at rest ∙ first-job above line args rest code is
 
 pub job-good : (above : List Line) (line : ℕ) (args : List (List ℕ)) (old mid new : Reader) (draft : Draft) → IsClosed above line old mid → own_codes above (job args) ≡ [] → draft.line ≡ line → draft.name ≡ name_of args → ((names : List (List ℕ)) → IsDraft names [] draft) → new.workers ≡ mid.workers → new.jobs ≡ mid.jobs → new.draft ≡ Some draft → IsReader (job args ∷ above) (line + 1) new × IsStep above line (job args) old new
-job-good above line args old mid new draft cl none el en fresh ew ej ed =
-    (record {
-      workers = rw ew cl.seen;
-      names = rw (ej, ed, en) (ap (λ n. n ++ name_of args ∷ []) cl.names);
-      draft = rw (ej, ed) (refl, cl.names, fresh (names_of mid.jobs), omega arith);
-    },
-    record {
-      bad = λ rest. rw (ed, el) (cl.bad args rest ∙ rw none refl);
-      workers = λ rest. rw (ew, cl.workers) refl;
-      jobs = λ rest. rw (ej, ed, en) (cl.jobs args rest);
-    })
+job-good above line args old mid new draft cl none el en fresh ew ej ed = (
+  record {
+    workers = rw ew cl.seen;
+    names = rw (ej, ed, en) (ap (λ n. n ++ name_of args ∷ []) cl.names);
+    draft = rw (ej, ed) (refl, cl.names, fresh (names_of mid.jobs), omega arith);
+  },
+  record {
+    bad = λ rest. rw (ed, el) (cl.bad args rest ∙ rw none refl);
+    workers = λ rest. rw (ew, cl.workers) refl;
+    jobs = λ rest. rw (ej, ed, en) (cl.jobs args rest);
+  },
+)
 
 pub above-misplaced : (args : List (List ℕ)) (above : List Line) (k : Keyword) → is_in_job above ≡ false → above_codes above (says k args) ≡ 16 ∷ []
 above-misplaced args above k out = rw (out, and-false (is_single k), and-false (is_chain (says k args))) refl

@@ -1,5 +1,5 @@
 -- What is answered on the words of a line: the least of their codes, or what they mean. (Own.)
-use Rattle.std.specs.Prelude.{◌≡◌, ℕ, ◌≤◌, ◌<◌, min, List, [], ◌∷◌, ◌++◌, ◌==◌, length, map, nat_lt, take, Option, Some, None, Result, Ok, Err, slice_index_or}
+use Rattle.std.specs.Prelude.{◌≡◌, ℕ, ◌<◌, min, List, [], ◌∷◌, ◌++◌, ◌==◌, length, nat_lt, take, Option, Some, None, Result, Ok, Err}
 use Rattle.std.specs.List.{flat_map}
 use Rattle.qtc_job.specs.declared.codes.LineFault.{LineFault}
 use Rattle.qtc_job.specs.declared.codes.LineFault.TheVariants.{Wrong, Memory}

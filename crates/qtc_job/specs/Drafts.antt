@@ -1,5 +1,5 @@
 -- What the lines of a job have said of it so far. (Own.)
-use Rattle.std.specs.Prelude.{◌≡◌, ℕ, Bool, true, false, List, [], ◌∷◌, ◌++◌, map as map_list, Option, Some, None, if◌then◌else◌}
+use Rattle.std.specs.Prelude.{◌≡◌, ℕ, true, List, [], ◌∷◌, ◌++◌, map as map_list, Option, Some, None, if◌then◌else◌}
 use Rattle.qtc_base.specs.Decimal.{number_of}
 use Rattle.qtc_job.specs.declared.drafts.Draft.{Draft}
 use Rattle.qtc_job.specs.declared.statements.Statement.{Statement}

@@ -1,10 +1,9 @@
 -- The form of each directive: which words stand after it. (Own.)
-use Rattle.std.specs.Prelude.{ℕ, List, [], ◌∷◌, take, map, Option, Some, None}
+use Rattle.std.specs.Prelude.{ℕ, List, [], ◌∷◌, take, map, Option, Some}
 use Rattle.std.specs.List.{zip}
 use Rattle.qtc_job.specs.declared.keywords.Keyword.{Keyword}
 use Rattle.qtc_job.specs.declared.keywords.Keyword.TheVariants as word
 use Rattle.qtc_job.specs.Keywords.{keyword_of}
-use Rattle.qtc_job.specs.Lines.{Line, too_long, silent, unknown, workers, job, says}
 use Rattle.qtc_job.specs.Limits.{most_workers, most_sources, most_blocks, most_block, most_piece, most_field, most_length, most_items}
 
 -- what a word may be: a number from the one to the other, a priority, a literal or name of a text, the name of this

@@ -1,5 +1,5 @@
 -- Which job files are lawful: those that a job file can say. (Own.)
-use Rattle.std.specs.Prelude.{◌≡◌, ℕ, ◌<◌, ◌≤◌, ℤ, pos, neg_ℤ, ◌≤ℤ◌, Bool, true, IsTrue, List, length, Option, IsSome, IfSome, All, slice_index_or}
+use Rattle.std.specs.Prelude.{◌≡◌, ℕ, ◌<◌, ◌≤◌, ℤ, pos, neg_ℤ, ◌≤ℤ◌, IsTrue, List, length, IsSome, IfSome, All, slice_index_or}
 use Rattle.std.specs.List.{AllPairs}
 use Rattle.qtc_ops.specs.declared.operations.ItemOp.{ItemOp}
 use Rattle.qtc_ops.specs.declared.operations.ItemOp.TheVariants as item
@@ -9,7 +9,6 @@ use Rattle.qtc_ops.specs.declared.predicates.Pred.{Pred}
 use Rattle.qtc_ops.specs.declared.predicates.Pred.TheVariants as kept
 use Rattle.qtc_ops.specs.declared.fold_ops.FoldOp.{FoldOp}
 use Rattle.qtc_ops.specs.declared.fold_ops.FoldOp.TheVariants as folded
-use Rattle.qtc_ops.specs.declared.list_ops.ListOp.{ListOp}
 use Rattle.qtc_ops.specs.declared.list_ops.ListOp.TheVariants as listed
 use Rattle.qtc_job.specs.declared.jobs.Input.{Input}
 use Rattle.qtc_job.specs.declared.jobs.Input.TheVariants as input

@@ -8,6 +8,7 @@ pub mod Grammar
 pub mod Heads
 pub mod Keywords
 pub mod Lawful
+pub mod Laws
 pub mod Limits
 pub mod Lines
 pub mod Literals

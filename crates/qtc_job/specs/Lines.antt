@@ -1,5 +1,5 @@
 -- What one line of a job file is. (Own.)
-use Rattle.std.specs.Prelude.{ℕ, Bool, true, false, nat_lt, List, [], ◌∷◌, length, map, Option, Some, None, slice_index, ◌==◌, if◌then◌else◌}
+use Rattle.std.specs.Prelude.{ℕ, Bool, true, false, nat_lt, List, [], ◌∷◌, length, map, Option, Some, slice_index, ◌==◌, if◌then◌else◌}
 use Rattle.std.specs.Str.{bytes_eq}
 use Rattle.qtc_base.specs.Lines.{lines}
 use Rattle.qtc_job.specs.declared.keywords.Keyword.{Keyword}

@@ -1,7 +1,6 @@
 -- What the words of a line mean, where nothing is wrong with it; elsewhere it doesn't matter what these say. (Own.)
-use Rattle.std.specs.Prelude.{ℕ, ℤ, pos, Bool, true, false, List, [], ◌∷◌, ◌++◌, map, Option, Some, None, slice_index_or, if◌then◌else◌}
-use Rattle.std.specs.List.{position_or_len, filter}
-
+use Rattle.std.specs.Prelude.{ℕ, pos, Bool, true, false, List, [], ◌∷◌, ◌++◌, map, Option, Some, None, slice_index_or, if◌then◌else◌}
+use Rattle.std.specs.List.{position_or_len}
 use Rattle.std.specs.Str.{bytes_eq}
 use Rattle.qtc_base.specs.Decimal.{number_of}
 use Rattle.qtc_ops.specs.declared.operations.ItemOp.{ItemOp}
@@ -24,7 +23,7 @@ use Rattle.qtc_job.specs.declared.keywords.Keyword.{Keyword}
 use Rattle.qtc_job.specs.declared.keywords.Keyword.TheVariants as word
 use Rattle.qtc_job.specs.Keywords.{keyword_of}
 use Rattle.qtc_job.specs.Limits.{default_workers, default_block}
-use Rattle.qtc_job.specs.Lines.{Line, too_long, silent, unknown, workers, job, says, is_workers, is_job, begins, args_in}
+use Rattle.qtc_job.specs.Lines.{Line, workers, job, says, begins, args_in}
 use Rattle.qtc_job.specs.Literals.{text_of, priority_of}
 use Rattle.qtc_job.specs.Codes.{name_of, own_below, stands}
 

@@ -1,7 +1,7 @@
 -- Where the first bad pair is found. (Own.)
-use Rattle.std.specs.Prelude.{◌≡◌, ℕ, ◌+◌, Bool, ◌&&◌, ◌||◌, nat_lt, List, [], ◌∷◌, ◌++◌, Option, Some, None, if◌then◌else◌}
+use Rattle.std.specs.Prelude.{ℕ, ◌+◌, ◌&&◌, ◌||◌, nat_lt, List, [], ◌∷◌, Option, Some, None, if◌then◌else◌}
 use Rattle.qtc_job.specs.Answers.{least}
-use Rattle.qtc_job.specs.Codes.{codes_on, job_codes, own_below}
+use Rattle.qtc_job.specs.Codes.{codes_on}
 use Rattle.qtc_job.specs.Lines.{Line}
 
 -- the pair of the line and the code, where there is a code, or else what comes later

@@ -1,5 +1,5 @@
 -- What one line of a job says, where nothing is wrong with it. (Own.)
-use Rattle.std.specs.Prelude.{ℕ, List, [], ◌∷◌, map}
+use Rattle.std.specs.Prelude.{ℕ, List, map}
 use Rattle.qtc_base.specs.Decimal.{number_of}
 use Rattle.qtc_job.specs.declared.jobs.ChainOp.TheVariants as chain
 use Rattle.qtc_job.specs.declared.keywords.Keyword.{Keyword}

@@ -7,21 +7,37 @@ use qtc_base::{NoMemory, Words};
 
 // The codes, as docs/JOB_FILES.md has them.
 pub const UNKNOWN_WORD: u32 = 1;
+
 pub const ENDS_EARLY: u32 = 2;
+
 pub const NO_NUMBER: u32 = 3;
+
 pub const OUT_OF_RANGE: u32 = 4;
+
 pub const REPEATED: u32 = 5;
+
 pub const NO_EARLIER_JOB: u32 = 6;
+
 pub const NAME_REPEATED: u32 = 7;
+
 pub const NO_INPUT: u32 = 8;
+
 pub const NOT_ONE_FUNCTION: u32 = 9;
+
 pub const ORDER_WITHOUT_FOLD: u32 = 10;
+
 pub const TOO_LONG: u32 = 11;
+
 pub const TOO_MANY_JOBS: u32 = 12;
+
 pub const MORE_WORDS: u32 = 13;
+
 pub const NO_LITERAL: u32 = 14;
+
 pub const NO_NAME: u32 = 15;
+
 pub const MISPLACED: u32 = 16;
+
 pub const CHAIN_TOO_LONG: u32 = 17;
 
 /// Why a line was not read.

@@ -47,7 +47,10 @@ fn read_job(alloc: Global, jobs: &EarlierJob, words: &mut Words) -> Result<u32, 
 }
 
 /// The pieces of a text, by what was read of their two words.
-fn pieces_of(size: Result<u32, LineFault>, text: Result<Bytes, LineFault>) -> Result<Input, LineFault>
+fn pieces_of(
+    size: Result<u32, LineFault>,
+    text: Result<Bytes, LineFault>,
+) -> Result<Input, LineFault>
     ensures { (a b : PlainList ℕ) (n : ℕ) (t : PlainList ℕ) → Gives a n size → Gives b t text → Gives (a ++ b) (Input.Pieces n t) result }
 {
     match text {
@@ -78,7 +81,12 @@ fn read_pieces(alloc: Global, words: &mut Words) -> Result<Input, LineFault>
     ended(read, words)
 }
 
-fn input_kind(alloc: Global, jobs: &EarlierJob, kind: Keyword, words: &mut Words) -> Result<Input, LineFault>
+fn input_kind(
+    alloc: Global,
+    jobs: &EarlierJob,
+    kind: Keyword,
+    words: &mut Words,
+) -> Result<Input, LineFault>
     ensures { Gives (form_codes (names_of jobs.now.jobs.now) (input_form (Some kind) (words_left words.old))) (input_kind_of (names_of jobs.now.jobs.now) (Some kind) (words_left words.old)) result }
 {
     match kind {

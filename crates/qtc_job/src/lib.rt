@@ -8,6 +8,7 @@ mod heads;
 mod inputs;
 mod jobs;
 mod keywords;
+mod laws;
 mod literals;
 mod marks;
 mod operations;
@@ -21,6 +22,7 @@ mod words_of;
 mod words_out;
 
 pub use jobs::{BadJob, ChainOp, Input, Job, JobFile, ParseFault};
+pub use laws::{each_text_is_read_or_refused, lines_are_read_once, the_limit_of_a_text_is_told};
 pub use parsing::{MOST_TEXT, parse};
 pub use printing::print;
 

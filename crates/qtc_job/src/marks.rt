@@ -36,11 +36,23 @@ impl Marks {
         ensures { (own : PlainList Line) (args : PlainList (PlainList ℕ)) → IsMarks own self → IsMarks (own ++ says keyword args ∷ []) result }
     {
         match keyword {
-            Keyword::Input => Marks { input: true, ..self },
+            Keyword::Input => Marks {
+                input: true,
+                ..self
+            },
             Keyword::Map => Marks { map: true, ..self },
-            Keyword::Filter => Marks { filter: true, ..self },
-            Keyword::Reduce => Marks { reduce: true, ..self },
-            Keyword::Order => Marks { order: true, ..self },
+            Keyword::Filter => Marks {
+                filter: true,
+                ..self
+            },
+            Keyword::Reduce => Marks {
+                reduce: true,
+                ..self
+            },
+            Keyword::Order => Marks {
+                order: true,
+                ..self
+            },
             _ => self,
         }
     }

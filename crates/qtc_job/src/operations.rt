@@ -15,7 +15,9 @@ use qtc_ops::{FoldOp, ItemOp, ListOp, MapOp, Pred};
 use std::alloc::Global;
 
 const MOST_FIELD: u32 = 1000;
+
 const MOST_LENGTH: u32 = 67_108_864;
+
 pub const MOST_ITEMS: u32 = 8_388_608;
 
 /// What a form without places means.
@@ -26,7 +28,12 @@ pub fn read_bare<T: Drop>(value: T, words: &mut Words) -> Result<T, LineFault>
 }
 
 /// What a form of one number means.
-pub fn read_number(alloc: Global, least: u32, most: u32, words: &mut Words) -> Result<u32, LineFault>
+pub fn read_number(
+    alloc: Global,
+    least: u32,
+    most: u32,
+    words: &mut Words,
+) -> Result<u32, LineFault>
     ensures { (names : PlainList (PlainList ℕ)) → Gives (form_codes names (exactly (number least most ∷ []) (words_left words.old))) (number_at (words_left words.old) 0) result }
 {
     read_one(alloc, &Number { least, most }, words)

@@ -10,8 +10,11 @@ ghost use Rattle.qtc_job.specs.Literals.{text_of, is_negative, priority_of, unsi
 ghost use Rattle.qtc_job.specs.Meaning.{place_of, word_at};
 
 use crate::Job;
+use crate::codes::{
+    ENDS_EARLY, LineFault, MORE_WORDS, NO_EARLIER_JOB, NO_NAME, NO_NUMBER, OUT_OF_RANGE, ended,
+    least_with,
+};
 use crate::literals::{is_name, read_literal, read_numeral};
-use crate::codes::{ENDS_EARLY, LineFault, MORE_WORDS, NO_EARLIER_JOB, NO_NAME, NO_NUMBER, OUT_OF_RANGE, ended, least_with};
 use qtc_base::{Bytes, List, NoMemory, Words};
 use std::alloc::Global;
 
@@ -32,7 +35,11 @@ pub trait Place {
 }
 
 /// What the one word of a form means.
-pub fn read_one<P: Place>(alloc: Global, place: &P, words: &mut Words) -> Result<P::Value, LineFault>
+pub fn read_one<P: Place>(
+    alloc: Global,
+    place: &P,
+    words: &mut Words,
+) -> Result<P::Value, LineFault>
     ensures { Gives (one_codes (P.codes place.now) (words_left words.old)) (P.meant place.now (word_at (words_left words.old) 0)) result }
 {
     let Some(word) = words.next() else {
@@ -179,7 +186,12 @@ impl<V: Drop> Many<V> {
 }
 
 /// What the words of one place up to so many mean.
-pub fn read_many<P: Place>(alloc: Global, place: &P, most: usize, words: &mut Words) -> Result<List<P::Value>, LineFault>
+pub fn read_many<P: Place>(
+    alloc: Global,
+    place: &P,
+    most: usize,
+    words: &mut Words,
+) -> Result<List<P::Value>, LineFault>
     ensures { Gives (many_codes (P.codes place.now) most (words_left words.old)) (map (P.meant place.now) (words_left words.old)) result }
 {
     let mut many = Many {

@@ -6,9 +6,7 @@ ghost use Rattle.qtc_job.specs.Keywords.{spelling};
 ghost use Rattle.qtc_job.specs.Tails.{back_lines, ended_lines, tail};
 
 use crate::keywords::Keyword;
-use crate::words_of::{
-    put_alone, put_filter, put_fold, put_input, put_list, put_map, put_numbers,
-};
+use crate::words_of::{put_alone, put_filter, put_fold, put_input, put_list, put_map, put_numbers};
 use crate::words_out::{put, put_literal, put_number, put_priority};
 use crate::{ChainOp, Job, JobFile};
 use qtc_base::{Bytes, NoMemory};

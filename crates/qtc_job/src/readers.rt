@@ -10,7 +10,9 @@ use crate::heads::{Head, read_head};
 use crate::keywords::Keyword;
 use crate::operations::read_number;
 use crate::places::{NewName, Place};
-use crate::refusals::{Refusal, add_said, refused, refused_here, last_fault, refused_job, refused_outside};
+use crate::refusals::{
+    Refusal, add_said, last_fault, refused, refused_here, refused_job, refused_outside,
+};
 use crate::statements::read_statement;
 use crate::{Job, JobFile, ParseFault};
 use qtc_base::{List, NoMemory, Words};
@@ -20,6 +22,7 @@ use std::alloc::Global;
 pub const MOST_LINE: usize = 4096;
 
 const MOST_WORKERS: u32 = 32;
+
 const DEFAULT_WORKERS: u32 = 4;
 
 /// The bytes that part two words.
@@ -138,7 +141,13 @@ impl Reader {
     }
 
     /// Reads the words of a line that begins with a directive of a job.
-    fn read_said(&mut self, alloc: Global, number: u32, keyword: Keyword, words: &mut Words) -> Result<(), Refusal>
+    fn read_said(
+        &mut self,
+        alloc: Global,
+        number: u32,
+        keyword: Keyword,
+        words: &mut Words,
+    ) -> Result<(), Refusal>
         requires { IsOneOfJob keyword }
         ensures { (above : PlainList Line) → IsReader above number self.old → Takes above number (says keyword (words_left words.old)) self.old self.new result }
     {
@@ -165,11 +174,7 @@ impl Reader {
         let mut words = Words::new(GAPS, line);
         match read_head(&mut words) {
             Head::Silent => Ok(()),
-            Head::Unknown => Err(refused(
-                &self.draft,
-                number,
-                LineFault::Wrong(UNKNOWN_WORD),
-            )),
+            Head::Unknown => Err(refused(&self.draft, number, LineFault::Wrong(UNKNOWN_WORD))),
             Head::Workers => self.read_workers(alloc, number, &mut words),
             Head::Job => self.read_job(alloc, number, &mut words),
             Head::Says(keyword) => self.read_said(alloc, number, keyword, &mut words),

@@ -98,7 +98,12 @@ pub fn refused_outside(line: u32, fault: LineFault) -> Refusal
 }
 
 /// Adds to a draft what was read of a line that begins with the word.
-pub fn add_said(draft: &mut Draft, number: u32, keyword: Keyword, read: Result<Statement, LineFault>) -> Result<(), Refusal>
+pub fn add_said(
+    draft: &mut Draft,
+    number: u32,
+    keyword: Keyword,
+    read: Result<Statement, LineFault>,
+) -> Result<(), Refusal>
     ensures { (above : PlainList Line) (args : PlainList (PlainList ℕ)) → is_in_job above ≡ true → IsDraft (earlier_names above) (own_above above) draft.old → draft.old.line < number → IsOneOfJob keyword
         → Gives (form_codes (earlier_names above) (directive_form keyword args)) (statement_of (earlier_names above) keyword args) read → Adds above number keyword args draft.old draft.new result }
 {

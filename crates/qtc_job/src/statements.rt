@@ -64,7 +64,12 @@ fn read_priority(alloc: Global, words: &mut Words) -> Result<i32, LineFault>
 }
 
 /// What a line of a job says, by the words after its directive.
-pub fn read_statement(alloc: Global, jobs: &EarlierJob, keyword: Keyword, words: &mut Words) -> Result<Statement, LineFault>
+pub fn read_statement(
+    alloc: Global,
+    jobs: &EarlierJob,
+    keyword: Keyword,
+    words: &mut Words,
+) -> Result<Statement, LineFault>
     ensures { Gives (form_codes (names_of jobs.now.jobs.now) (directive_form keyword (words_left words.old))) (statement_of (names_of jobs.now.jobs.now) keyword (words_left words.old)) result }
 {
     match keyword {

@@ -1,4 +1,3 @@
-use Rattle.std.proofs.Common.{[], ◌∷◌}
 use Rattle.qtc_base.specs.Words.{words_left}
 use Rattle.qtc_job.specs.Forms.{number, literal}
 use Rattle.qtc_job.proofs.FormLemmas.{exactly-two}

@@ -1,4 +1,4 @@
-use Rattle.std.proofs.Common.{true, false, ap, sym, ◌∙◌}
+use Rattle.std.proofs.Common.{true, false, ap}
 use Rattle.qtc_ops.specs.declared.operations.ItemOp.TheVariants.{Keep}
 use Rattle.qtc_base.specs.Words.{words_left}
 use Rattle.qtc_job.proofs.KindLemmas.{filter-form_other, filter-kind_other}

@@ -1,5 +1,5 @@
 use Rattle.std.proofs.Common.{ap, ◌∙◌}
-use Rattle.qtc_job.specs.Codes.{earlier_names, own_above}
+use Rattle.qtc_job.specs.Codes.{earlier_names}
 use Rattle.qtc_job.specs.Drafts.{with_statement}
 use Rattle.qtc_job.proofs.refusals.add_said.Goals as goal
 

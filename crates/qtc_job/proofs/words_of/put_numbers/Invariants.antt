@@ -1,6 +1,5 @@
 use Rattle.std.proofs.Common.{◌≡◌, ◌++◌, length, map}
 use Rattle.qtc_base.specs.Decimal.{decimal_text}
-use Rattle.qtc_job.specs.Canonical.{name_at, names_of, written}
 use Rattle.qtc_job.specs.Tails.{tail}
 use Rattle.qtc_job.proofs.words_of.put_numbers.Given as goal
 

@@ -1,8 +1,6 @@
-use Rattle.std.proofs.Common.{◌≡◌, ◌≤◌, ◌<◌, true, false, length, sym, ◌∙◌, arith}
-use Rattle.std.specs.Prelude.{◌&&◌}
+use Rattle.std.proofs.Common.{◌≤◌, length, sym, ◌∙◌, arith}
 use Rattle.std.proofs.lemmas.Bool.{true≢false}
-use Rattle.qtc_job.specs.Codes.{is_chain, is_single, own_above, stands}
-use Rattle.qtc_job.specs.Lines.{says}
+use Rattle.qtc_job.specs.Codes.{own_above}
 use Rattle.qtc_job.proofs.StepLemmas.{above-repeated, above-late, above-none}
 use Rattle.qtc_job.proofs.drafts.Draft.above_code.Goals as goal
 use Rattle.qtc_job.proofs.drafts.Draft.above_code.Goals.{else-is_chain_word-via-then-is_chain_word+else-len-ge-MOST_CHAIN, else-is_chain_word-via-else-is_chain_word}
@@ -22,7 +20,7 @@ pub returns : goal.returns
 returns c = λ names args above in_job d one.
     let not_single = sym (c.has.ensures names (own_above above) d one) ∙ c.if-has.false in
     above-none args above c.args.keyword c.args.self.now.chain in_job not_single d.chain (λ chain.
-        elim c.else-is_chain_word.branch [
-          else-is_chain_word-via-then-is_chain_word+else-len-ge-MOST_CHAIN w ↦ let e = w.len.ensures in let t = w.if-len-ge-MOST_CHAIN.false in omega arith
-        | else-is_chain_word-via-else-is_chain_word w ↦ absurd (true≢false (sym chain ∙ (sym (c.is_chain_word.ensures args one) ∙ w.if-is_chain_word.false)))
-        ])
+    elim c.else-is_chain_word.branch [
+      | else-is_chain_word-via-then-is_chain_word+else-len-ge-MOST_CHAIN w ↦ let e = w.len.ensures in let t = w.if-len-ge-MOST_CHAIN.false in omega arith
+      | else-is_chain_word-via-else-is_chain_word w ↦ absurd (true≢false (sym chain ∙ (sym (c.is_chain_word.ensures args one) ∙ w.if-is_chain_word.false)))
+    ])

@@ -12,8 +12,7 @@ returns-in-Err c = λ above line is.
     let here : c.args.self.now.draft ≡ Some c.in-Some.draft = sym c.in-Some.ensures.value in
     let d = rw here at is.draft in
     let f = c.in-Err.ensures (names_of c.args.self.now.jobs) (own_above above) d.2 in
-    let j = c.refused_job.ensures _ f in
-    (
+    let j = c.refused_job.ensures _ f in (
       λ args. subst (λ (o : Option Draft). IsRefusal above line (job args) o c.refused_job.result) (sym here) (job-refusal above line c.in-Some.draft args c.refused_job.result j),
       subst (λ (o : Option Draft). IsEndRefusal above line o c.refused_job.result) (sym here) (end-refusal above line c.in-Some.draft c.refused_job.result j),
     )

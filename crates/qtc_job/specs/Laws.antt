@@ -1,0 +1,13 @@
+-- The laws of the grammar. (Own.)
+use Rattle.std.specs.Prelude.{◌≡◌, ◌⊎◌, ℕ, List}
+use Rattle.qtc_job.specs.declared.jobs.JobFile.{JobFile}
+use Rattle.qtc_job.specs.Grammar.{IsLeastBad, Reads}
+use Rattle.qtc_job.specs.Lines.{Line}
+
+-- a file that the lines are read as, or a bad pair; never both, since lines with a bad pair are read as no file
+abbrev pub EachTextIsReadOrRefused : Type 0
+EachTextIsReadOrRefused =
+    (lines : List Line) → ((file : JobFile) × Reads lines file) ⊎ ((line : ℕ) × (code : ℕ) × IsLeastBad lines line code)
+
+abbrev pub LinesAreReadOnce : Type 0
+LinesAreReadOnce = (lines : List Line) (a b : JobFile) → Reads lines a → Reads lines b → a ≡ b

@@ -1,0 +1,21 @@
+//! What the definitions of this crate say in their subjects' own words.
+ghost use Rattle.std.specs.Prelude.{◌≡◌};
+ghost use Rattle.qtc_job.specs.Laws.{EachTextIsReadOrRefused, LinesAreReadOnce};
+ghost use Rattle.qtc_job.specs.Limits.{most_text};
+
+use crate::MOST_TEXT;
+
+/// Lines either are read as a file, or have a bad pair of least line and then least code.
+pub fn each_text_is_read_or_refused()
+    ensures { EachTextIsReadOrRefused }
+{}
+
+/// No lines are read as two files.
+pub fn lines_are_read_once()
+    ensures { LinesAreReadOnce }
+{}
+
+/// The limit that callers test is the one that `parse` asks for.
+pub fn the_limit_of_a_text_is_told()
+    ensures { MOST_TEXT ≡ most_text }
+{}

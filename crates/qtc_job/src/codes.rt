@@ -92,7 +92,8 @@ fn fault_with(fault: LineFault, code: Option<u32>) -> LineFault
 
 /// The fault of a line of which this was read, beside this other fault.
 pub fn either<T: Drop>(read: Result<T, LineFault>, other: LineFault) -> LineFault
-    ensures { (codes more : PlainList ℕ) (meant : T) → Gives codes meant read → IsFault more other → IsFault (codes ++ more) result }
+    ensures { (codes more : PlainList ℕ) (meant : T) → Gives codes meant read → IsFault more other
+        → IsFault (codes ++ more) result }
 {
     match other {
         LineFault::Memory => LineFault::Memory,
@@ -106,7 +107,8 @@ pub fn either<T: Drop>(read: Result<T, LineFault>, other: LineFault) -> LineFaul
 /// What was read, unless this code of the line is wrong too.
 pub fn with_code<T: Drop>(read: Result<T, LineFault>, code: Option<u32>) -> Result<T, LineFault>
     ensures clean { OnOk result (code ≡ None) }
-    ensures gives { (codes more : PlainList ℕ) (meant : T) → Gives codes meant read → IsLeastSoFar more code → Gives (codes ++ more) meant result }
+    ensures gives { (codes more : PlainList ℕ) (meant : T) → Gives codes meant read → IsLeastSoFar more code
+        → Gives (codes ++ more) meant result }
 {
     match read {
         Err(fault) => Err(fault_with(fault, code)),
@@ -119,7 +121,8 @@ pub fn with_code<T: Drop>(read: Result<T, LineFault>, code: Option<u32>) -> Resu
 
 /// What was read, where no word is left.
 pub fn ended<T: Drop>(read: Result<T, LineFault>, rest: &mut Words) -> Result<T, LineFault>
-    ensures { (codes : PlainList ℕ) (meant : T) → Gives codes meant read → Gives (codes ++ where_ (nat_lt 0 (length (words_left rest.old))) 13) meant result }
+    ensures { (codes : PlainList ℕ) (meant : T) → Gives codes meant read
+        → Gives (codes ++ where_ (nat_lt 0 (length (words_left rest.old))) 13) meant result }
 {
     let code = match rest.next() {
         Some(_) => Some(MORE_WORDS),

@@ -93,7 +93,8 @@ impl Draft {
 
     /// Whether a line that may stand once in a job has begun with the word.
     pub fn has(&self, keyword: Keyword) -> bool
-        ensures { (names : PlainList (PlainList ℕ)) (own : PlainList Line) → IsDraft names own self.now → IsOneOfJob keyword → result ≡ (is_single keyword && stands keyword own) }
+        ensures { (names : PlainList (PlainList ℕ)) (own : PlainList Line) → IsDraft names own self.now
+            → IsOneOfJob keyword → result ≡ (is_single keyword && stands keyword own) }
     {
         match keyword {
             Keyword::Input => self.input.is_some(),
@@ -112,7 +113,8 @@ impl Draft {
 
     /// The least code of a line that begins with the word, by the lines above it in the job.
     pub fn above_code(&self, keyword: Keyword) -> Option<u32>
-        ensures { (names args : PlainList (PlainList ℕ)) (above : PlainList Line) → is_in_job above ≡ true → IsDraft names (own_above above) self.now → IsOneOfJob keyword
+        ensures { (names args : PlainList (PlainList ℕ)) (above : PlainList Line) → is_in_job above ≡ true
+            → IsDraft names (own_above above) self.now → IsOneOfJob keyword
             → IsLeastSoFar (above_codes above (says keyword args)) result }
     {
         if self.has(keyword) {
@@ -126,7 +128,8 @@ impl Draft {
 
     /// Which of its directives the job has.
     pub fn marks(&self) -> Marks
-        ensures { (names : PlainList (PlainList ℕ)) (own : PlainList Line) → IsDraft names own self.now → IsMarks own result }
+        ensures { (names : PlainList (PlainList ℕ)) (own : PlainList Line) → IsDraft names own self.now
+            → IsMarks own result }
     {
         Marks {
             input: self.input.is_some(),
@@ -139,7 +142,8 @@ impl Draft {
 
     /// The job of all its lines, or the least code of its job line.
     pub fn finish(self, alloc: Global) -> Result<Job, LineFault>
-        ensures { (names : PlainList (PlainList ℕ)) (own : PlainList Line) → IsDraft names own self → Gives (job_codes own) (job_of names self.name own) result }
+        ensures { (names : PlainList (PlainList ℕ)) (own : PlainList Line) → IsDraft names own self
+            → Gives (job_codes own) (job_of names self.name own) result }
     {
         let Draft {
             line: _,

@@ -19,7 +19,8 @@ const MOST_JOBS: usize = 64;
 /// Where the job of this name stands among the jobs, from 0.
 pub fn place_among(jobs: &[Job], word: &[u8]) -> Option<usize>
     ensures { MatchOption result (list_any (bytes_eq word.now) (names_of jobs.now) ≡ false)
-        (λ place. (list_any (bytes_eq word.now) (names_of jobs.now) ≡ true) × (place ≡ place_of (names_of jobs.now) word.now) × (place < length jobs.now)) }
+        (λ place. (list_any (bytes_eq word.now) (names_of jobs.now) ≡ true)
+        × (place ≡ place_of (names_of jobs.now) word.now) × (place < length jobs.now)) }
 {
     let mut left = jobs;
     let mut place = 0;
@@ -35,7 +36,8 @@ pub fn place_among(jobs: &[Job], word: &[u8]) -> Option<usize>
 
 /// The least code of a job line with this name, by the jobs above it.
 pub fn name_code(jobs: &[Job], name: &[u8]) -> Option<u32>
-    ensures code { (above : PlainList Line) (after : PlainList (PlainList ℕ)) → names_above above ≡ names_of jobs.now → IsLeastSoFar (above_codes above (job (name.now ∷ after))) result }
+    ensures code { (above : PlainList Line) (after : PlainList (PlainList ℕ)) → names_above above ≡ names_of jobs.now
+        → IsLeastSoFar (above_codes above (job (name.now ∷ after))) result }
     ensures room { IfNone result (length jobs.now < 64) }
 {
     if place_among(jobs, name).is_some() {

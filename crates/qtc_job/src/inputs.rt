@@ -25,7 +25,8 @@ const MOST_PIECE: u32 = 67_108_864;
 /// What a form of names of texts means.
 #[tactic(auto, using(crate::proofs::FormLemmas::form_laws))]
 fn read_texts(alloc: Global, words: &mut Words) -> Result<List<Bytes>, LineFault>
-    ensures { (names : PlainList (PlainList ℕ)) → Gives (form_codes names (up_to 64 literal (words_left words.old))) (map text_of (words_left words.old)) result }
+    ensures { (names : PlainList (PlainList ℕ)) → Gives (form_codes names (up_to 64 literal (words_left words.old)))
+        (map text_of (words_left words.old)) result }
 {
     read_many(alloc, &Literal, MOST_SOURCES, words)
 }
@@ -33,7 +34,8 @@ fn read_texts(alloc: Global, words: &mut Words) -> Result<List<Bytes>, LineFault
 /// What a form of names of earlier jobs means.
 #[tactic(auto, using(crate::proofs::FormLemmas::form_laws))]
 fn read_jobs(alloc: Global, jobs: &EarlierJob, words: &mut Words) -> Result<List<u32>, LineFault>
-    ensures { Gives (form_codes (names_of jobs.now.jobs.now) (up_to 64 earlier (words_left words.old))) (map (place_of (names_of jobs.now.jobs.now)) (words_left words.old)) result }
+    ensures { Gives (form_codes (names_of jobs.now.jobs.now) (up_to 64 earlier (words_left words.old)))
+        (map (place_of (names_of jobs.now.jobs.now)) (words_left words.old)) result }
 {
     read_many(alloc, jobs, MOST_SOURCES, words)
 }
@@ -41,7 +43,8 @@ fn read_jobs(alloc: Global, jobs: &EarlierJob, words: &mut Words) -> Result<List
 /// What a form of one name of an earlier job means.
 #[tactic(auto, using(crate::proofs::FormLemmas::form_laws))]
 fn read_job(alloc: Global, jobs: &EarlierJob, words: &mut Words) -> Result<u32, LineFault>
-    ensures { Gives (form_codes (names_of jobs.now.jobs.now) (exactly (earlier ∷ []) (words_left words.old))) (place_of (names_of jobs.now.jobs.now) (word_at (words_left words.old) 0)) result }
+    ensures { Gives (form_codes (names_of jobs.now.jobs.now) (exactly (earlier ∷ []) (words_left words.old)))
+        (place_of (names_of jobs.now.jobs.now) (word_at (words_left words.old) 0)) result }
 {
     read_one(alloc, jobs, words)
 }
@@ -51,7 +54,8 @@ fn pieces_of(
     size: Result<u32, LineFault>,
     text: Result<Bytes, LineFault>,
 ) -> Result<Input, LineFault>
-    ensures { (a b : PlainList ℕ) (n : ℕ) (t : PlainList ℕ) → Gives a n size → Gives b t text → Gives (a ++ b) (Input.Pieces n t) result }
+    ensures { (a b : PlainList ℕ) (n : ℕ) (t : PlainList ℕ) → Gives a n size → Gives b t text
+        → Gives (a ++ b) (Input.Pieces n t) result }
 {
     match text {
         Err(fault) => Err(either(size, fault)),
@@ -64,7 +68,8 @@ fn pieces_of(
 
 /// The pieces of a text.
 fn read_pieces(alloc: Global, words: &mut Words) -> Result<Input, LineFault>
-    ensures { (names : PlainList (PlainList ℕ)) → Gives (form_codes names (exactly (number 1 67108864 ∷ literal ∷ []) (words_left words.old)))
+    ensures { (names : PlainList (PlainList ℕ)) → Gives (form_codes names
+        (exactly (number 1 67108864 ∷ literal ∷ []) (words_left words.old)))
         (Input.Pieces (number_at (words_left words.old) 0) (text_at (words_left words.old) 1)) result }
 {
     let Some(size) = words.next() else {
@@ -87,7 +92,8 @@ fn input_kind(
     kind: Keyword,
     words: &mut Words,
 ) -> Result<Input, LineFault>
-    ensures { Gives (form_codes (names_of jobs.now.jobs.now) (input_form (Some kind) (words_left words.old))) (input_kind_of (names_of jobs.now.jobs.now) (Some kind) (words_left words.old)) result }
+    ensures { Gives (form_codes (names_of jobs.now.jobs.now) (input_form (Some kind) (words_left words.old)))
+        (input_kind_of (names_of jobs.now.jobs.now) (Some kind) (words_left words.old)) result }
 {
     match kind {
         Keyword::Lines => match read_text(alloc, words) {
@@ -117,7 +123,8 @@ fn input_kind(
 
 /// What `input` names.
 pub fn read_input(alloc: Global, jobs: &EarlierJob, words: &mut Words) -> Result<Input, LineFault>
-    ensures { Gives (form_codes (names_of jobs.now.jobs.now) (chosen input_form (words_left words.old))) (input_meant (names_of jobs.now.jobs.now) (words_left words.old)) result }
+    ensures { Gives (form_codes (names_of jobs.now.jobs.now) (chosen input_form (words_left words.old)))
+        (input_meant (names_of jobs.now.jobs.now) (words_left words.old)) result }
 {
     match next_keyword(words) {
         Ok(kind) => input_kind(alloc, jobs, kind, words),

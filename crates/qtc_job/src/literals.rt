@@ -75,7 +75,8 @@ fn hex_byte(high: u8, low: u8) -> Option<u8>
 /// The byte that the front of a literal stands for, and what follows that front.
 fn first_byte(word: &[u8]) -> Option<(u8, &[u8])>
     requires { 0 < length word.now }
-    ensures value { MatchOption result (literal_of word.now ≡ None) (λ first. literal_of word.now ≡ onto (Some first.0) (literal_of first.1.now)) }
+    ensures value { MatchOption result (literal_of word.now ≡ None)
+        (λ first. literal_of word.now ≡ onto (Some first.0) (literal_of first.1.now)) }
     ensures shorter { IfSome result (λ first. length first.1.now < length word.now) }
 {
     match word {

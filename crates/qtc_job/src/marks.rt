@@ -33,7 +33,8 @@ impl Marks {
 
     /// Those with one line more that begins with the word.
     pub fn with_line(self, keyword: Keyword) -> Marks
-        ensures { (own : PlainList Line) (args : PlainList (PlainList ℕ)) → IsMarks own self → IsMarks (own ++ says keyword args ∷ []) result }
+        ensures { (own : PlainList Line) (args : PlainList (PlainList ℕ)) → IsMarks own self
+            → IsMarks (own ++ says keyword args ∷ []) result }
     {
         match keyword {
             Keyword::Input => Marks {

@@ -22,7 +22,8 @@ pub const MOST_ITEMS: u32 = 8_388_608;
 
 /// What a form without places means.
 pub fn read_bare<T: Drop>(value: T, words: &mut Words) -> Result<T, LineFault>
-    ensures { (names : PlainList (PlainList ℕ)) → Gives (form_codes names (exactly [] (words_left words.old))) value result }
+    ensures { (names : PlainList (PlainList ℕ)) → Gives (form_codes names (exactly [] (words_left words.old))) value
+        result }
 {
     ended(Ok(value), words)
 }
@@ -34,14 +35,16 @@ pub fn read_number(
     most: u32,
     words: &mut Words,
 ) -> Result<u32, LineFault>
-    ensures { (names : PlainList (PlainList ℕ)) → Gives (form_codes names (exactly (number least most ∷ []) (words_left words.old))) (number_at (words_left words.old) 0) result }
+    ensures { (names : PlainList (PlainList ℕ)) → Gives (form_codes names
+        (exactly (number least most ∷ []) (words_left words.old))) (number_at (words_left words.old) 0) result }
 {
     read_one(alloc, &Number { least, most }, words)
 }
 
 /// What a form of one literal means.
 pub fn read_text(alloc: Global, words: &mut Words) -> Result<Bytes, LineFault>
-    ensures { (names : PlainList (PlainList ℕ)) → Gives (form_codes names (exactly (literal ∷ []) (words_left words.old))) (text_at (words_left words.old) 0) result }
+    ensures { (names : PlainList (PlainList ℕ)) → Gives (form_codes names
+        (exactly (literal ∷ []) (words_left words.old))) (text_at (words_left words.old) 0) result }
 {
     read_one(alloc, &Literal, words)
 }
@@ -49,7 +52,8 @@ pub fn read_text(alloc: Global, words: &mut Words) -> Result<Bytes, LineFault>
 /// The word that chooses the form of those after it.
 pub fn next_keyword(words: &mut Words) -> Result<Keyword, LineFault>
     ensures { MatchResult result (λ keyword. IsChosen (words_left words.old) (words_left words.new) keyword)
-        (λ fault. (names : PlainList (PlainList ℕ)) (form : Option Keyword → PlainList (PlainList ℕ) → Form) → IsNoneWithout form → IsFault (form_codes names (chosen form (words_left words.old))) fault) }
+        (λ fault. (names : PlainList (PlainList ℕ)) (form : Option Keyword → PlainList (PlainList ℕ) → Form)
+        → IsNoneWithout form → IsFault (form_codes names (chosen form (words_left words.old))) fault) }
 {
     match words.next() {
         Some(word) => match Keyword::of(word) {
@@ -61,7 +65,8 @@ pub fn next_keyword(words: &mut Words) -> Result<Keyword, LineFault>
 }
 
 fn map_kind(alloc: Global, kind: Keyword, words: &mut Words) -> Result<MapOp, LineFault>
-    ensures { (names : PlainList (PlainList ℕ)) → Gives (form_codes names (map_form (Some kind) (words_left words.old))) (map_kind_of (Some kind) (words_left words.old)) result }
+    ensures { (names : PlainList (PlainList ℕ)) → Gives (form_codes names
+        (map_form (Some kind) (words_left words.old))) (map_kind_of (Some kind) (words_left words.old)) result }
 {
     match kind {
         Keyword::Same => read_bare(MapOp::Same, words),
@@ -78,7 +83,8 @@ fn map_kind(alloc: Global, kind: Keyword, words: &mut Words) -> Result<MapOp, Li
 
 /// The item function of `map`.
 pub fn read_map(alloc: Global, words: &mut Words) -> Result<ItemOp, LineFault>
-    ensures { (names : PlainList (PlainList ℕ)) → Gives (form_codes names (chosen map_form (words_left words.old))) (map_meant (words_left words.old)) result }
+    ensures { (names : PlainList (PlainList ℕ)) → Gives (form_codes names (chosen map_form (words_left words.old)))
+        (map_meant (words_left words.old)) result }
 {
     match next_keyword(words) {
         Ok(kind) => match map_kind(alloc, kind, words) {
@@ -90,7 +96,9 @@ pub fn read_map(alloc: Global, words: &mut Words) -> Result<ItemOp, LineFault>
 }
 
 fn predicate_kind(alloc: Global, kind: Keyword, words: &mut Words) -> Result<Pred, LineFault>
-    ensures { (names : PlainList (PlainList ℕ)) → Gives (form_codes names (predicate_form (Some kind) (words_left words.old))) (predicate_kind_of (Some kind) (words_left words.old)) result }
+    ensures { (names : PlainList (PlainList ℕ)) → Gives (form_codes names
+        (predicate_form (Some kind) (words_left words.old))) (predicate_kind_of (Some kind) (words_left words.old))
+        result }
 {
     match kind {
         Keyword::Contains => match read_text(alloc, words) {
@@ -111,7 +119,8 @@ fn predicate_kind(alloc: Global, kind: Keyword, words: &mut Words) -> Result<Pre
 
 /// The predicate after `not`.
 fn read_predicate(alloc: Global, words: &mut Words) -> Result<Pred, LineFault>
-    ensures { (names : PlainList (PlainList ℕ)) → Gives (form_codes names (chosen predicate_form (words_left words.old))) (by_word predicate_kind_of (words_left words.old)) result }
+    ensures { (names : PlainList (PlainList ℕ)) → Gives (form_codes names
+        (chosen predicate_form (words_left words.old))) (by_word predicate_kind_of (words_left words.old)) result }
 {
     match next_keyword(words) {
         Ok(kind) => predicate_kind(alloc, kind, words),
@@ -120,7 +129,8 @@ fn read_predicate(alloc: Global, words: &mut Words) -> Result<Pred, LineFault>
 }
 
 fn filter_kind(alloc: Global, kind: Keyword, words: &mut Words) -> Result<ItemOp, LineFault>
-    ensures { (names : PlainList (PlainList ℕ)) → Gives (form_codes names (filter_form (Some kind) (words_left words.old))) (filter_kind_of (Some kind) (words_left words.old)) result }
+    ensures { (names : PlainList (PlainList ℕ)) → Gives (form_codes names
+        (filter_form (Some kind) (words_left words.old))) (filter_kind_of (Some kind) (words_left words.old)) result }
 {
     match kind {
         Keyword::Not => match read_predicate(alloc, words) {
@@ -136,7 +146,8 @@ fn filter_kind(alloc: Global, kind: Keyword, words: &mut Words) -> Result<ItemOp
 
 /// The item function of `filter`.
 pub fn read_filter(alloc: Global, words: &mut Words) -> Result<ItemOp, LineFault>
-    ensures { (names : PlainList (PlainList ℕ)) → Gives (form_codes names (chosen filter_form (words_left words.old))) (filter_meant (words_left words.old)) result }
+    ensures { (names : PlainList (PlainList ℕ)) → Gives (form_codes names (chosen filter_form (words_left words.old)))
+        (filter_meant (words_left words.old)) result }
 {
     match next_keyword(words) {
         Ok(kind) => filter_kind(alloc, kind, words),
@@ -145,7 +156,8 @@ pub fn read_filter(alloc: Global, words: &mut Words) -> Result<ItemOp, LineFault
 }
 
 fn fold_kind(alloc: Global, kind: Keyword, words: &mut Words) -> Result<FoldOp, LineFault>
-    ensures { (names : PlainList (PlainList ℕ)) → Gives (form_codes names (fold_form (Some kind) (words_left words.old))) (fold_kind_of (Some kind) (words_left words.old)) result }
+    ensures { (names : PlainList (PlainList ℕ)) → Gives (form_codes names
+        (fold_form (Some kind) (words_left words.old))) (fold_kind_of (Some kind) (words_left words.old)) result }
 {
     match kind {
         Keyword::Count => read_bare(FoldOp::Count, words),
@@ -164,7 +176,8 @@ fn fold_kind(alloc: Global, kind: Keyword, words: &mut Words) -> Result<FoldOp, 
 
 /// The fold of `reduce`.
 pub fn read_fold(alloc: Global, words: &mut Words) -> Result<FoldOp, LineFault>
-    ensures { (names : PlainList (PlainList ℕ)) → Gives (form_codes names (chosen fold_form (words_left words.old))) (fold_meant (words_left words.old)) result }
+    ensures { (names : PlainList (PlainList ℕ)) → Gives (form_codes names (chosen fold_form (words_left words.old)))
+        (fold_meant (words_left words.old)) result }
 {
     match next_keyword(words) {
         Ok(kind) => fold_kind(alloc, kind, words),
@@ -173,7 +186,8 @@ pub fn read_fold(alloc: Global, words: &mut Words) -> Result<FoldOp, LineFault>
 }
 
 fn order_kind(kind: Keyword, words: &mut Words) -> Result<bool, LineFault>
-    ensures { (names : PlainList (PlainList ℕ)) → Gives (form_codes names (order_form (Some kind) (words_left words.old))) (order_kind_of (Some kind) (words_left words.old)) result }
+    ensures { (names : PlainList (PlainList ℕ)) → Gives (form_codes names
+        (order_form (Some kind) (words_left words.old))) (order_kind_of (Some kind) (words_left words.old)) result }
 {
     match kind {
         Keyword::Ordered => read_bare(true, words),
@@ -184,7 +198,8 @@ fn order_kind(kind: Keyword, words: &mut Words) -> Result<bool, LineFault>
 
 /// Whether `order` says that the fold is ordered.
 pub fn read_order(words: &mut Words) -> Result<bool, LineFault>
-    ensures { (names : PlainList (PlainList ℕ)) → Gives (form_codes names (chosen order_form (words_left words.old))) (order_meant (words_left words.old)) result }
+    ensures { (names : PlainList (PlainList ℕ)) → Gives (form_codes names (chosen order_form (words_left words.old)))
+        (order_meant (words_left words.old)) result }
 {
     match next_keyword(words) {
         Ok(kind) => order_kind(kind, words),
@@ -193,7 +208,8 @@ pub fn read_order(words: &mut Words) -> Result<bool, LineFault>
 }
 
 fn list_kind(alloc: Global, kind: Keyword, words: &mut Words) -> Result<ListOp, LineFault>
-    ensures { (names : PlainList (PlainList ℕ)) → Gives (form_codes names (list_form (Some kind) (words_left words.old))) (list_kind_of (Some kind) (words_left words.old)) result }
+    ensures { (names : PlainList (PlainList ℕ)) → Gives (form_codes names
+        (list_form (Some kind) (words_left words.old))) (list_kind_of (Some kind) (words_left words.old)) result }
 {
     match kind {
         Keyword::First => match read_number(alloc, 0, MOST_ITEMS, words) {
@@ -208,7 +224,8 @@ fn list_kind(alloc: Global, kind: Keyword, words: &mut Words) -> Result<ListOp, 
 
 /// The list operation of `then`.
 pub fn read_list(alloc: Global, words: &mut Words) -> Result<ListOp, LineFault>
-    ensures { (names : PlainList (PlainList ℕ)) → Gives (form_codes names (chosen list_form (words_left words.old))) (list_meant (words_left words.old)) result }
+    ensures { (names : PlainList (PlainList ℕ)) → Gives (form_codes names (chosen list_form (words_left words.old)))
+        (list_meant (words_left words.old)) result }
 {
     match next_keyword(words) {
         Ok(kind) => list_kind(alloc, kind, words),

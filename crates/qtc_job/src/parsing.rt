@@ -53,7 +53,8 @@ fn marks_below(marks: Marks, lines: Lines) -> Marks
 /// Of the code of a job line, where it has one, and of the code of a line that doesn't stand above it, the one that
 /// comes first.
 fn first_of(job_code: Option<u32>, job_line: u32, code: u32, line: u32) -> BadJob
-    ensures { (codes : PlainList ℕ) → IsLeastSoFar codes job_code → settled (least codes) job_line code line ≡ Some (result.line, result.code) }
+    ensures { (codes : PlainList ℕ) → IsLeastSoFar codes job_code
+        → settled (least codes) job_line code line ≡ Some (result.line, result.code) }
 {
     if let Some(job_code) = job_code {
         if job_line < line || job_code < code {

@@ -40,7 +40,8 @@ pub fn read_one<P: Place>(
     place: &P,
     words: &mut Words,
 ) -> Result<P::Value, LineFault>
-    ensures { Gives (one_codes (P.codes place.now) (words_left words.old)) (P.meant place.now (word_at (words_left words.old) 0)) result }
+    ensures { Gives (one_codes (P.codes place.now) (words_left words.old))
+        (P.meant place.now (word_at (words_left words.old) 0)) result }
 {
     let Some(word) = words.next() else {
         return Err(LineFault::Wrong(ENDS_EARLY));
@@ -110,7 +111,8 @@ impl Place for Priority {
 
 /// The number of this size and sign, where it is a priority.
 fn signed(negative: bool, size: u128) -> Option<i32>
-    ensures { SomeIff result (size ≤ (if negative then 2147483648 else 2147483647)) (if negative then neg_ℤ (pos size) else pos size) }
+    ensures { SomeIff result (size ≤ (if negative then 2147483648 else 2147483647))
+        (if negative then neg_ℤ (pos size) else pos size) }
 {
     if negative {
         if size > 2_147_483_648 {
@@ -169,7 +171,8 @@ struct Many<V> {
 impl<V: Drop> Many<V> {
     /// Takes what was read of one more word.
     fn take(&mut self, read: Result<V, LineFault>) -> Result<(), NoMemory>
-        ensures { (codes more : PlainList ℕ) (meant : PlainList V) (value : V) → IsSoFar codes meant self.old.values self.old.code → Gives more value read
+        ensures { (codes more : PlainList ℕ) (meant : PlainList V) (value : V)
+            → IsSoFar codes meant self.old.values self.old.code → Gives more value read
             → OnOk result (IsSoFar (more ++ codes) (meant ++ value ∷ []) self.new.values self.new.code) }
     {
         match read {
@@ -192,7 +195,8 @@ pub fn read_many<P: Place>(
     most: usize,
     words: &mut Words,
 ) -> Result<List<P::Value>, LineFault>
-    ensures { Gives (many_codes (P.codes place.now) most (words_left words.old)) (map (P.meant place.now) (words_left words.old)) result }
+    ensures { Gives (many_codes (P.codes place.now) most (words_left words.old))
+        (map (P.meant place.now) (words_left words.old)) result }
 {
     let mut many = Many {
         values: List::new(alloc),

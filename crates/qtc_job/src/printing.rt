@@ -29,7 +29,8 @@ fn end(into: &mut Bytes) -> Result<(), NoMemory>
 
 #[tactic(auto, using(crate::proofs::LineLemmas::line_laws))]
 fn print_input(into: &mut Bytes, jobs: &[Job], job: &Job) -> Result<(), NoMemory>
-    ensures { OnOk result (into.new ≡ into.old ++ ended_line (spelling Keyword.Input ∷ input_words (names_of jobs.now) job.now.input)) }
+    ensures { OnOk result (into.new ≡ into.old ++ ended_line (spelling Keyword.Input ∷ input_words (names_of jobs.now)
+        job.now.input)) }
 {
     begin(into, Keyword::Input)?;
     put_input(into, jobs, &job.input)?;
@@ -92,7 +93,8 @@ fn print_blocks(into: &mut Bytes, blocks: &[u32]) -> Result<(), NoMemory>
 
 #[tactic(auto, using(crate::proofs::LineLemmas::line_laws))]
 fn print_priority(into: &mut Bytes, priority: i32) -> Result<(), NoMemory>
-    ensures { OnOk result (into.new ≡ into.old ++ ended_line (spelling Keyword.Priority ∷ priority_text priority ∷ [])) }
+    ensures { OnOk result (into.new ≡ into.old ++ ended_line (spelling Keyword.Priority ∷ priority_text priority ∷
+        [])) }
 {
     begin(into, Keyword::Priority)?;
     put_priority(into, priority)?;
@@ -159,8 +161,10 @@ fn print_chain(into: &mut Bytes, steps: &[ChainOp]) -> Result<(), NoMemory>
 /// Appends the lines of what is done when, of watching and of the chain.
 #[tactic(auto, using(crate::proofs::LineLemmas::line_laws))]
 fn print_later(into: &mut Bytes, job: &Job) -> Result<(), NoMemory>
-    ensures { OnOk result (into.new ≡ into.old ++ ended_lines (after_lines (spelling Keyword.CancelAfter) job.now.cancel_after
-        ++ (after_lines (spelling Keyword.SuspendAfter) job.now.suspend_after ++ (watch_lines job.now.watch ++ map chain_words job.now.chain)))) }
+    ensures { OnOk result (into.new ≡ into.old ++ ended_lines
+        (after_lines (spelling Keyword.CancelAfter) job.now.cancel_after
+        ++ (after_lines (spelling Keyword.SuspendAfter) job.now.suspend_after
+        ++ (watch_lines job.now.watch ++ map chain_words job.now.chain)))) }
 {
     print_after(into, Keyword::CancelAfter, job.cancel_after)?;
     print_after(into, Keyword::SuspendAfter, job.suspend_after)?;

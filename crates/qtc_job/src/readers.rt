@@ -67,7 +67,8 @@ impl Reader {
 
     /// The least code of a line of workers, by the lines above it.
     fn workers_code(&self) -> Option<u32>
-        ensures { (above : PlainList Line) (line : ℕ) (args : PlainList (PlainList ℕ)) → IsReader above line self.now → IsLeastSoFar (above_codes above (workers_line args)) result }
+        ensures { (above : PlainList Line) (line : ℕ) (args : PlainList (PlainList ℕ)) → IsReader above line self.now
+            → IsLeastSoFar (above_codes above (workers_line args)) result }
     {
         if self.workers.is_some() {
             return Some(REPEATED);
@@ -80,7 +81,8 @@ impl Reader {
 
     /// Reads the words of a line of workers.
     fn read_workers(&mut self, alloc: Global, number: u32, words: &mut Words) -> Result<(), Refusal>
-        ensures { (above : PlainList Line) → IsReader above number self.old → Takes above number (workers_line (words_left words.old)) self.old self.new result }
+        ensures { (above : PlainList Line) → IsReader above number self.old
+            → Takes above number (workers_line (words_left words.old)) self.old self.new result }
     {
         let read = with_code(
             read_number(alloc, 1, MOST_WORKERS, words),
@@ -97,7 +99,8 @@ impl Reader {
 
     /// Ends the job whose lines were read.
     fn close(&mut self, alloc: Global) -> Result<(), Refusal>
-        ensures { (above : PlainList Line) (line : ℕ) → IsReader above line self.old → Closes above line self.old self.new result }
+        ensures { (above : PlainList Line) (line : ℕ) → IsReader above line self.old
+            → Closes above line self.old self.new result }
     {
         let Some(draft) = self.draft.take() else {
             return Ok(());
@@ -115,7 +118,8 @@ impl Reader {
 
     /// Begins the job of a job line, where none is open.
     fn open(&mut self, alloc: Global, number: u32, words: &mut Words) -> Result<(), Refusal>
-        ensures { (above : PlainList Line) (old : Reader) → IsClosed above number old self.old → Takes above number (job_line (words_left words.old)) old self.new result }
+        ensures { (above : PlainList Line) (old : Reader) → IsClosed above number old self.old
+            → Takes above number (job_line (words_left words.old)) old self.new result }
     {
         let Some(name) = words.next() else {
             return Err(refused_here(number, LineFault::Wrong(ENDS_EARLY)));
@@ -132,7 +136,8 @@ impl Reader {
 
     /// Reads the words of a job line.
     fn read_job(&mut self, alloc: Global, number: u32, words: &mut Words) -> Result<(), Refusal>
-        ensures { (above : PlainList Line) → IsReader above number self.old → Takes above number (job_line (words_left words.old)) self.old self.new result }
+        ensures { (above : PlainList Line) → IsReader above number self.old
+            → Takes above number (job_line (words_left words.old)) self.old self.new result }
     {
         match self.close(alloc) {
             Ok(()) => self.open(alloc, number, words),
@@ -149,7 +154,8 @@ impl Reader {
         words: &mut Words,
     ) -> Result<(), Refusal>
         requires { IsOneOfJob keyword }
-        ensures { (above : PlainList Line) → IsReader above number self.old → Takes above number (says keyword (words_left words.old)) self.old self.new result }
+        ensures { (above : PlainList Line) → IsReader above number self.old
+            → Takes above number (says keyword (words_left words.old)) self.old self.new result }
     {
         let jobs = EarlierJob {
             jobs: self.jobs.as_slice(),
@@ -166,7 +172,8 @@ impl Reader {
 
     /// Reads the next line, which has this number, from 1.
     pub fn read_line(&mut self, alloc: Global, number: u32, line: &[u8]) -> Result<(), Refusal>
-        ensures { (above : PlainList Line) → IsReader above number self.old → Takes above number (line_of line.now) self.old self.new result }
+        ensures { (above : PlainList Line) → IsReader above number self.old
+            → Takes above number (line_of line.now) self.old self.new result }
     {
         if line.len() > MOST_LINE {
             return Err(refused(&self.draft, number, LineFault::Wrong(TOO_LONG)));

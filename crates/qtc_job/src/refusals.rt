@@ -33,7 +33,8 @@ pub enum Refusal {
 
 /// The refusal of a line that begins with no word that a job line's codes ask for.
 pub fn refused(draft: &Option<Draft>, number: u32, fault: LineFault) -> Refusal
-    ensures { (above : PlainList Line) (jobs : PlainList Job) (l : Line) → IsDraftBelow above number jobs draft.now → IsUnmarked l → IsFault (own_codes above l) fault → IsRefusal above number l draft.now result }
+    ensures { (above : PlainList Line) (jobs : PlainList Job) (l : Line) → IsDraftBelow above number jobs draft.now
+        → IsUnmarked l → IsFault (own_codes above l) fault → IsRefusal above number l draft.now result }
 {
     match fault {
         LineFault::Memory => Refusal::Memory,
@@ -50,7 +51,9 @@ pub fn refused(draft: &Option<Draft>, number: u32, fault: LineFault) -> Refusal
 
 /// The refusal of a line of a job that begins with the word.
 fn refused_in(draft: &Draft, keyword: Keyword, number: u32, fault: LineFault) -> Refusal
-    ensures { (above : PlainList Line) (names args : PlainList (PlainList ℕ)) → is_in_job above ≡ true → IsDraft names (own_above above) draft.now → draft.now.line < number → IsFault (own_codes above (says keyword args)) fault
+    ensures { (above : PlainList Line) (names args : PlainList (PlainList ℕ)) → is_in_job above ≡ true
+        → IsDraft names (own_above above) draft.now → draft.now.line < number
+        → IsFault (own_codes above (says keyword args)) fault
         → IsRefusal above number (says keyword args) (Some draft.now) result }
 {
     match fault {
@@ -75,7 +78,9 @@ pub fn refused_job(line: u32, fault: LineFault) -> Refusal
 
 /// The refusal of a job line, whose own lines come after it.
 pub fn refused_here(line: u32, fault: LineFault) -> Refusal
-    ensures { (above : PlainList Line) (args : PlainList (PlainList ℕ)) (draft : Option Draft) → IsOpenAt above line draft (job args) → IsFault (own_codes above (job args)) fault → IsRefusal above line (job args) draft result }
+    ensures { (above : PlainList Line) (args : PlainList (PlainList ℕ)) (draft : Option Draft)
+        → IsOpenAt above line draft (job args) → IsFault (own_codes above (job args)) fault
+        → IsRefusal above line (job args) draft result }
 {
     match fault {
         LineFault::Memory => Refusal::Memory,
@@ -89,7 +94,8 @@ pub fn refused_here(line: u32, fault: LineFault) -> Refusal
 
 /// The refusal of a line that is no job line, where no job line stands above it.
 pub fn refused_outside(line: u32, fault: LineFault) -> Refusal
-    ensures { (above : PlainList Line) (l : Line) → is_job l ≡ false → IsFault (own_codes above l) fault → IsRefusal above line l None result }
+    ensures { (above : PlainList Line) (l : Line) → is_job l ≡ false → IsFault (own_codes above l) fault
+        → IsRefusal above line l None result }
 {
     match fault {
         LineFault::Memory => Refusal::Memory,
@@ -104,8 +110,11 @@ pub fn add_said(
     keyword: Keyword,
     read: Result<Statement, LineFault>,
 ) -> Result<(), Refusal>
-    ensures { (above : PlainList Line) (args : PlainList (PlainList ℕ)) → is_in_job above ≡ true → IsDraft (earlier_names above) (own_above above) draft.old → draft.old.line < number → IsOneOfJob keyword
-        → Gives (form_codes (earlier_names above) (directive_form keyword args)) (statement_of (earlier_names above) keyword args) read → Adds above number keyword args draft.old draft.new result }
+    ensures { (above : PlainList Line) (args : PlainList (PlainList ℕ)) → is_in_job above ≡ true
+        → IsDraft (earlier_names above) (own_above above) draft.old → draft.old.line < number → IsOneOfJob keyword
+        → Gives (form_codes (earlier_names above) (directive_form keyword args))
+        (statement_of (earlier_names above) keyword args) read
+        → Adds above number keyword args draft.old draft.new result }
 {
     match with_code(read, draft.above_code(keyword)) {
         Ok(statement) => match draft.add(statement) {
@@ -118,7 +127,8 @@ pub fn add_said(
 
 /// The fault of a file whose last job is refused at its end.
 pub fn last_fault(refusal: Refusal) -> ParseFault
-    ensures { (above : PlainList Line) (line : ℕ) (draft : Option Draft) → IsEndRefusal above line draft refusal → IsFirst (open_bad draft above line []) result }
+    ensures { (above : PlainList Line) (line : ℕ) (draft : Option Draft) → IsEndRefusal above line draft refusal
+        → IsFirst (open_bad draft above line []) result }
 {
     match refusal {
         Refusal::Bad(bad) => ParseFault::Bad(bad),

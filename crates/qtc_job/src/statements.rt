@@ -47,7 +47,8 @@ pub enum Statement {
 
 /// What a form of sizes of blocks means.
 fn read_blocks(alloc: Global, words: &mut Words) -> Result<List<u32>, LineFault>
-    ensures { (names : PlainList (PlainList ℕ)) → Gives (form_codes names (up_to 16 (number 1 65536) (words_left words.old))) (map number_of (words_left words.old)) result }
+    ensures { (names : PlainList (PlainList ℕ)) → Gives (form_codes names
+        (up_to 16 (number 1 65536) (words_left words.old))) (map number_of (words_left words.old)) result }
 {
     let places = Number {
         least: 1,
@@ -58,7 +59,8 @@ fn read_blocks(alloc: Global, words: &mut Words) -> Result<List<u32>, LineFault>
 
 /// What a form of one priority means.
 fn read_priority(alloc: Global, words: &mut Words) -> Result<i32, LineFault>
-    ensures { (names : PlainList (PlainList ℕ)) → Gives (form_codes names (exactly (priority ∷ []) (words_left words.old))) (priority_of (word_at (words_left words.old) 0)) result }
+    ensures { (names : PlainList (PlainList ℕ)) → Gives (form_codes names
+        (exactly (priority ∷ []) (words_left words.old))) (priority_of (word_at (words_left words.old) 0)) result }
 {
     read_one(alloc, &Priority, words)
 }
@@ -70,7 +72,8 @@ pub fn read_statement(
     keyword: Keyword,
     words: &mut Words,
 ) -> Result<Statement, LineFault>
-    ensures { Gives (form_codes (names_of jobs.now.jobs.now) (directive_form keyword (words_left words.old))) (statement_of (names_of jobs.now.jobs.now) keyword (words_left words.old)) result }
+    ensures { Gives (form_codes (names_of jobs.now.jobs.now) (directive_form keyword (words_left words.old)))
+        (statement_of (names_of jobs.now.jobs.now) keyword (words_left words.old)) result }
 {
     match keyword {
         Keyword::Input => match read_input(alloc, jobs, words) {

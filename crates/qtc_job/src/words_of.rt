@@ -57,7 +57,8 @@ pub fn put_predicate(into: &mut Bytes, pred: &Pred) -> Result<(), NoMemory>
 }
 
 pub fn put_filter(into: &mut Bytes, not: bool, pred: &Pred) -> Result<(), NoMemory>
-    ensures { OnOk result (into.new ≡ into.old ++ tail (if not then spelling Keyword.Not ∷ predicate_words pred.now else predicate_words pred.now)) }
+    ensures { OnOk result (into.new ≡ into.old ++ tail (if not then spelling Keyword.Not ∷ predicate_words pred.now
+        else predicate_words pred.now)) }
 {
     if not {
         put_keyword(into, Keyword::Not)?;

@@ -1,3 +1,12 @@
-pub mod GrammarLemmas
+pub mod LeastLemmas
+pub mod LiteralLemmas
+pub mod ManyLemmas
+pub mod FormLemmas
+pub mod KindLemmas
+pub mod DraftLemmas
+pub mod JobLemmas
+pub mod StepLemmas
+pub mod SearchLemmas
+pub mod MarkLemmas
 pub mod ParseLemmas
-pub mod WordLemmas
+pub mod LineLemmas

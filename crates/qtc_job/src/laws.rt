@@ -1,18 +1,21 @@
-//! What the grammar of job files comes to: each list of lines is read as at most one job or departs from the
-//! form at one place, and never both.
-ghost use Rattle.qtc_job.specs.Laws.{ReadLinesDepartNowhere, LinesSayOneJob, LinesDepartAtOnePlace};
+//! What the definitions of this crate say in their subjects' own words.
+ghost use Rattle.std.specs.Prelude.{◌≡◌};
+ghost use Rattle.qtc_job.specs.Laws.{EachTextIsReadOrRefused, LinesAreReadOnce};
+ghost use Rattle.qtc_job.specs.Limits.{most_text};
 
-/// Lines that are read as a job depart from the form nowhere.
-pub fn read_lines_depart_nowhere()
-    ensures { ReadLinesDepartNowhere }
+use crate::MOST_TEXT;
+
+/// Lines either are read as a file, or have a bad pair of least line and then least code.
+pub fn each_text_is_read_or_refused()
+    ensures { EachTextIsReadOrRefused }
 {}
 
-/// No lines are read as two jobs.
-pub fn lines_say_one_job()
-    ensures { LinesSayOneJob }
+/// No lines are read as two files.
+pub fn lines_are_read_once()
+    ensures { LinesAreReadOnce }
 {}
 
-/// Lines that depart from the form do so at one place.
-pub fn lines_depart_at_one_place()
-    ensures { LinesDepartAtOnePlace }
+/// The limit that callers test is the one that `parse` asks for.
+pub fn the_limit_of_a_text_is_told()
+    ensures { MOST_TEXT ≡ most_text }
 {}

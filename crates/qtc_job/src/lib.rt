@@ -1,16 +1,30 @@
-//! The job file: what its lines say, and where it departs from its form.
+//! The job file: what its lines say, what is wrong with them, and its canonical text.
 #![tactic(auto)]
 
+mod codes;
+mod drafts;
+mod earlier_jobs;
+mod heads;
+mod inputs;
 mod jobs;
+mod keywords;
 mod laws;
-mod names;
+mod literals;
+mod marks;
+mod operations;
 mod parsing;
-mod stages;
-mod word_cut;
+mod places;
+mod printing;
+mod readers;
+mod refusals;
+mod statements;
+mod words_of;
+mod words_out;
 
-pub use jobs::{BadJob, Input, Job, JobFile, ParseFault};
-pub use laws::{lines_depart_at_one_place, lines_say_one_job, read_lines_depart_nowhere};
+pub use jobs::{BadJob, ChainOp, Input, Job, JobFile, ParseFault};
+pub use laws::{each_text_is_read_or_refused, lines_are_read_once, the_limit_of_a_text_is_told};
 pub use parsing::{MOST_TEXT, parse};
+pub use printing::print;
 
 #[cfg(test)]
 mod tests;

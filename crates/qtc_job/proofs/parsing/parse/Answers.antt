@@ -1,25 +1,24 @@
-use Rattle.std.proofs.Common.{refl, arith}
-use Rattle.qtc_job.proofs.ParseLemmas.{more, departs, early, number-few}
+use Rattle.std.proofs.Common.{◌+◌, arith}
+use Rattle.qtc_job.specs.Lines.{line_of}
+use Rattle.qtc_job.proofs.ParseLemmas.{number-few, refused, ends-reads, ends-refuses}
 use Rattle.qtc_job.proofs.parsing.parse.Goals as goal
 
 pub overflow_add-number : goal.overflow_add-number
-overflow_add-number c = let few = number-few _ _ _ _ c.loop-line.invariant in omega (arith, c.requires)
+overflow_add-number c =
+    let few = number-few c.args.text.now c.loop-line.lines c.loop-line.reader c.loop-line.number c.loop-line.invariant in
+    omega (arith, c.requires)
 
-pub loop-line-preserved : goal.loop-line-preserved
-loop-line-preserved c =
-    let on = rw c.in-Some-2.is at c.in_ok-next.ensures in
-    more _ _ _ _ _ _ _ c.loop-line.invariant c.in-Some.ensures.steps on.0 on.1 on.2
+pub returns-in-Err-clause-refuses : goal.returns-in-Err-clause-refuses
+returns-in-Err-clause-refuses c =
+    let r = c.loop-line.invariant in
+    refused c.args.text.now c.loop-line.lines c.next.new.self c.in-Some.line.now c.loop-line.reader c.loop-line.number c.settle.result r c.in-Some.ensures.steps (c.settle.ensures r.above (line_of c.in-Some.line.now) c.loop-line.reader.draft (c.in-Err.ensures r.above r.is))
 
-pub returns-in-None-2-clause-refuses : goal.returns-in-None-2-clause-refuses
-returns-in-None-2-clause-refuses c =
-    let not_on = rw c.in-None-2.is at c.in_ok-next.ensures in
-    (refl, departs _ _ c.next.new.self _ _ _ c.loop-line.invariant c.in-Some.ensures.steps not_on)
+pub returns-clause-reads : goal.returns-clause-reads
+returns-clause-reads c =
+    let r = c.loop-line.invariant in
+    ends-reads c.args.text.now c.loop-line.lines c.loop-line.reader c.loop-line.number c.finish.result r c.in_default.ensures.steps.0 (c.finish.ensures r.above (c.loop-line.number + 1) r.is)
 
-pub overflow_add-result : goal.overflow_add-result
-overflow_add-result c = let few = number-few _ _ _ _ c.loop-line.invariant in omega (arith, c.requires)
-
-pub returns : goal.returns
-returns c = record {
-  reads = tt;
-  refuses = (refl, early _ _ _ _ c.loop-line.invariant c.in-None.ensures.steps.0 c.in_default.not-Whole);
-}
+pub returns-clause-refuses : goal.returns-clause-refuses
+returns-clause-refuses c =
+    let r = c.loop-line.invariant in
+    ends-refuses c.args.text.now c.loop-line.lines c.loop-line.reader c.loop-line.number c.finish.result r c.in_default.ensures.steps.0 (c.finish.ensures r.above (c.loop-line.number + 1) r.is)

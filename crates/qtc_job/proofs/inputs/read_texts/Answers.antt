@@ -1,0 +1,11 @@
+use Rattle.std.proofs.Common.{ℕ, List, map, subst, sym}
+use Rattle.qtc_base.specs.Words.{words_left}
+use Rattle.qtc_job.specs.Answers.{Gives}
+use Rattle.qtc_job.specs.Forms.{literal}
+use Rattle.qtc_job.specs.Literals.{text_of}
+use Rattle.qtc_job.proofs.FormLemmas.{up_to-many}
+use Rattle.qtc_job.proofs.inputs.read_texts.Goals as goal
+
+pub returns : goal.returns
+returns c = λ names.
+    subst (λ (codes : List ℕ). Gives codes (map text_of (words_left c.args.words.now)) c.read_many.result) (sym (up_to-many names 64 literal (words_left c.args.words.now))) c.read_many.ensures

@@ -1,0 +1,4 @@
+use Rattle.qtc_job.proofs.operations.read_fold.Goals as goal
+
+pub returns-in-Ok : goal.returns-in-Ok
+returns-in-Ok c = λ names. let k = c.in-Ok.ensures in rw (k.cut, k.is) (c.fold_kind.ensures names)

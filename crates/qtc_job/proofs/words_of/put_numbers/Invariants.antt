@@ -1,0 +1,10 @@
+use Rattle.std.proofs.Common.{◌≡◌, ◌++◌, length, map}
+use Rattle.qtc_base.specs.Decimal.{decimal_text}
+use Rattle.qtc_job.specs.Tails.{tail}
+use Rattle.qtc_job.proofs.words_of.put_numbers.Given as goal
+
+abbrev pub invariant-loop-left : goal.invariant-loop-left
+invariant-loop-left l = l.fn.into ++ tail (map decimal_text l.numbers) ≡ l.into ++ tail (map decimal_text l.left)
+
+abbrev pub decreases-loop-left : goal.decreases-loop-left
+decreases-loop-left l = length l.left

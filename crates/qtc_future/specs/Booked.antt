@@ -1,7 +1,7 @@
 -- A journal with the events that it posted, and the room that both have. (Own.)
-use Rattle.std.specs.Prelude.{ℕ, ◌+◌, ◌≤◌, ◌||◌, Bool, if◌then◌else◌, List}
-use Rattle.qtc_events.specs.Flags.{Standing}
-use Rattle.qtc_events.specs.Journal.{flags_after_all}
+use Rattle.std.specs.Prelude.{ℕ, ◌≡◌, ◌+◌, ◌≤◌, ◌||◌, Bool, if◌then◌else◌, List}
+use Rattle.qtc_events.specs.Flags.{Standing, flags_in}
+use Rattle.qtc_events.specs.Journal.{accounted, flags_after_all}
 use Rattle.qtc_events.specs.declared.entries.Entry.{Entry}
 use Rattle.qtc_events.specs.declared.events.Event.{Event}
 
@@ -10,6 +10,11 @@ pub record Booked : Type 0 where
   pub events : List Event
   pub entry_room : ℕ
   pub event_room : ℕ
+
+-- what is kept beside the journal is the journal's: the word of its flags, and the results that it accounts for
+pub record IsUpToDate (word sum : ℕ) (journal : List Entry) : Type 0 where
+  pub flags : flags_in word ≡ flags_after_all journal
+  pub accounts : sum ≡ accounted journal
 
 -- one, unless it stands
 abbrev pub unless_stands : Bool → ℕ

@@ -20,10 +20,7 @@ pub(crate) struct Book {
 }
 
 impl Model for Book {
-    ghost use Rattle.std.specs.Prelude.{◌≡◌};
-    ghost use Rattle.qtc_events.specs.Flags.{flags_in};
-    ghost use Rattle.qtc_events.specs.Journal.{flags_after_all, accounted as accounted_by};
-    ghost use Rattle.qtc_future.specs.Booked.{Booked};
+    ghost use Rattle.qtc_future.specs.Booked.{Booked, IsUpToDate};
 
     ghost Value = { Booked };
 
@@ -34,7 +31,7 @@ impl Model for Book {
       event_room = s.events.room;
     } };
 
-    ghost invariant = { λ s. (flags_in s.flags.bits ≡ flags_after_all s.journal.items) × (s.accounted ≡ accounted_by s.journal.items) };
+    ghost invariant = { λ s. IsUpToDate s.flags.bits s.accounted s.journal.items };
 }
 
 impl Book {

@@ -174,13 +174,11 @@ impl<V> FutureCore<V> {
     }
 }
 
-impl<V: Drop> FutureCore<V> {
-    ghost use Rattle.std.specs.Prelude.{◌≡◌, ◌≤◌, ◌∷◌, [], true, false, OnErr, OnOk, IfOk, IsSome, IsTrue, length};
+impl<V> FutureCore<V> {
+    ghost use Rattle.std.specs.Prelude.{◌≡◌, [], OnErr, OnOk, IfOk, IsTrue};
     ghost use Rattle.qtc_events.specs.Calls.{has_effect};
-    ghost use Rattle.qtc_store.specs.Batches.{least_covered};
-    ghost use Rattle.qtc_store.specs.Stored.{batch_with};
-    ghost use Rattle.qtc_future.specs.Future.{flags_of, results_of};
-    ghost use Rattle.qtc_future.specs.Steps.{by_row, has_ended, judged, logged_by, reached_by, step, told_by, with_call, Effect};
+    ghost use Rattle.qtc_future.specs.Future.{flags_of};
+    ghost use Rattle.qtc_future.specs.Steps.{by_row, logged_by, reached_by, step, told_by, with_call, Effect};
     ghost use Rattle.qtc_future.specs.Answering.{IsStep, IsTry};
     ghost use Rattle.qtc_future.specs.Ends.{is_free, is_plain};
     ghost use Rattle.qtc_future.specs.declared.requests.Request.TheVariants as request;
@@ -250,42 +248,6 @@ impl<V: Drop> FutureCore<V> {
         Ok(Reply::Counted { reached })
     }
 
-    /// Stores results for the indexes from `begin` to `begin + total`. Err is want of memory.
-    pub fn report_batch(
-        &mut self,
-        caller: u32,
-        begin: u32,
-        values: List<V>,
-        total: u32,
-    ) -> Result<Reply, NoMemory>
-        requires few { length values ≤ total }
-        requires whole { self.old.filter ≡ false → length values ≡ total }
-        ensures { IsTry self.old (step self.old caller (request.ReportBatch begin values total)) told_by self.new result }
-    {
-        if let Some(flags) = self.ended() {
-            return Ok(Reply::Dropped(flags));
-        }
-        self.offer(caller, begin, values, total)
-    }
-
-    /// Stores one result at `index`, or where the last batch ends. Err is want of memory.
-    pub fn add_result(
-        &mut self,
-        caller: u32,
-        index: Option<u32>,
-        value: V,
-    ) -> Result<Reply, NoMemory>
-        requires { self.old.filter ≡ true → IsSome index }
-        ensures { IsTry self.old (step self.old caller (request.AddResult index value)) told_by self.new result }
-    {
-        if let Some(flags) = self.ended() {
-            return Ok(Reply::Dropped(flags));
-        }
-        let begin = index.unwrap_or(self.store.insert_index());
-        let values = single(self.book.allocator(), value)?;
-        self.offer(caller, begin, values, 1)
-    }
-
     /// Makes a call for which room is kept.
     fn call(&mut self, caller: u32, call: Call) -> bool
         requires { IsTrue (is_free call) }
@@ -332,6 +294,53 @@ impl<V: Drop> FutureCore<V> {
         };
         self.book.enter(self.store.is_filter(), entry, 0, 0);
         Ok(reached)
+    }
+}
+
+impl<V: Drop> FutureCore<V> {
+    ghost use Rattle.std.specs.Prelude.{◌≡◌, ◌≤◌, true, false, OnErr, IfOk, IsSome, length};
+    ghost use Rattle.qtc_store.specs.Batches.{least_covered};
+    ghost use Rattle.qtc_store.specs.Stored.{batch_with};
+    ghost use Rattle.qtc_future.specs.Future.{results_of};
+    ghost use Rattle.qtc_future.specs.Steps.{has_ended, judged, step, told_by};
+    ghost use Rattle.qtc_future.specs.Answering.{IsStep, IsTry};
+    ghost use Rattle.qtc_future.specs.declared.requests.Request.TheVariants as request;
+
+    /// Stores results for the indexes from `begin` to `begin + total`. Err is want of memory.
+    pub fn report_batch(
+        &mut self,
+        caller: u32,
+        begin: u32,
+        values: List<V>,
+        total: u32,
+    ) -> Result<Reply, NoMemory>
+        requires few { length values ≤ total }
+        requires whole { self.old.filter ≡ false → length values ≡ total }
+        ensures { IsTry self.old (step self.old caller (request.ReportBatch begin values total)) told_by
+            self.new result }
+    {
+        if let Some(flags) = self.ended() {
+            return Ok(Reply::Dropped(flags));
+        }
+        self.offer(caller, begin, values, total)
+    }
+
+    /// Stores one result at `index`, or where the last batch ends. Err is want of memory.
+    pub fn add_result(
+        &mut self,
+        caller: u32,
+        index: Option<u32>,
+        value: V,
+    ) -> Result<Reply, NoMemory>
+        requires { self.old.filter ≡ true → IsSome index }
+        ensures { IsTry self.old (step self.old caller (request.AddResult index value)) told_by self.new result }
+    {
+        if let Some(flags) = self.ended() {
+            return Ok(Reply::Dropped(flags));
+        }
+        let begin = index.unwrap_or(self.store.insert_index());
+        let values = single(self.book.allocator(), value)?;
+        self.offer(caller, begin, values, 1)
     }
 
     /// Offers a batch to the store. Err is want of memory.

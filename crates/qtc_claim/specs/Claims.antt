@@ -1,6 +1,6 @@
 -- Claimed ranges (own). Workers add to one counter; an addition claims the numbers from the counter as it was up to
 -- what it became.
-use Rattle.std.specs.Prelude.{ℕ, ◌+◌, ◌≤◌, cond, nat_le, List, ◌++◌, [], ◌∷◌, map, sum_by}
+use Rattle.std.specs.Prelude.{ℕ, ◌+◌, ◌≤◌, ◌==◌, cond, nat_le, List, ◌++◌, [], ◌∷◌, map, sum_by, count_by}
 use Rattle.std.specs.List.{flat_map}
 use Rattle.qtc_base.specs.Ranges.{times_covered, clip}
 
@@ -62,7 +62,12 @@ new_worker number = record { number = number; loads = 0; seen = 0; claims = [] }
 
 -- it loaded the counter, which was `count`
 abbrev pub after_load : ℕ → Worker → Worker
-after_load count worker = record { number = worker.number; loads = worker.loads + 1; seen = count; claims = worker.claims }
+after_load count worker = record {
+  number = worker.number;
+  loads = worker.loads + 1;
+  seen = count;
+  claims = worker.claims;
+}
 
 -- it made an addition
 abbrev pub after_addition : Addition → Worker → Worker
@@ -72,6 +77,10 @@ after_addition addition worker = record {
   seen = addition.begin + addition.size;
   claims = worker.claims ++ addition ∷ [];
 }
+
+-- how many of the workers have the number
+abbrev pub times_numbered : ℕ → List Worker → ℕ
+times_numbered number workers = count_by (λ worker. worker.number == number) workers
 
 -- all that the workers claimed
 abbrev pub claims_of : List Worker → List Addition

@@ -1,8 +1,8 @@
 -- What contracts see of a counter, a seat, a piece and a tally, and what the calls answer (own).
-use Rattle.std.specs.Prelude.{◌≡◌, ℕ, ◌+◌, ◌*◌, ◌<◌, ◌≤◌, ◌⊎◌, ◌==◌, cond, nat_lt, List, [], Some, map, length, slice_get, count_by, All}
+use Rattle.std.specs.Prelude.{◌≡◌, ℕ, ◌+◌, ◌*◌, ◌<◌, ◌≤◌, ◌⊎◌, cond, nat_lt, List, [], Some, map, length, slice_get, All}
 use Rattle.atomic_table.specs.Seated.{TableId}
 use Rattle.qtc_base.specs.Ranges.{Tiles}
-use Rattle.qtc_claim.specs.Claims.{most_size, Addition, Worker, new_worker, after_load, after_addition, added, added_past, claims_of, clipped, MeetNowhere}
+use Rattle.qtc_claim.specs.Claims.{most_size, Addition, Worker, new_worker, after_load, after_addition, added, added_past, times_numbered, claims_of, clipped, MeetNowhere}
 
 -- which counter it is, as no other has its table; how many indexes it counts, and for how many workers
 pub record CounterId : Type 0 where
@@ -66,7 +66,7 @@ ClaimsNone n size before after =
 pub record IsGathered (counter : CounterId) (tally : TallyState) : Type 0 where
   pub pieces : MeetNowhere counter.n tally.pieces
   pub claims : MeetNowhere counter.n (claims_of tally.workers)
-  pub numbers : (number : ℕ) → count_by (λ worker. worker.number == number) tally.workers ≤ cond (nat_lt number counter.workers) 1 0
+  pub numbers : (number : ℕ) → times_numbered number tally.workers ≤ cond (nat_lt number counter.workers) 1 0
   pub count : length tally.workers ≤ counter.workers
 
 -- all seats are gathered
@@ -88,4 +88,5 @@ pub record IsEnd (tally : TallyState) : Type 0 where
 -- claimed below n tiles 0 to n
 pub record KnowsClaims (tally : TallyState) : Type 0 where
   pub seen : All (λ worker. worker.seen ≤ added_by tally.workers) tally.workers
-  pub tiles : tally.of.n ≤ added_by tally.workers → Tiles (map (clipped tally.of.n) (claims_of tally.workers)) tally.of.n
+  pub tiles : tally.of.n ≤ added_by tally.workers
+      → Tiles (map (clipped tally.of.n) (claims_of tally.workers)) tally.of.n

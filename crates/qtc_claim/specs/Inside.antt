@@ -38,7 +38,8 @@ abbrev pub in_hand : ℕ → Addition → List Addition
 in_hand n addition = cond (nat_lt addition.begin n) (addition ∷ []) []
 
 -- a seat of the counter that is this worker's, with a range in hand or none
-pub record IsWorker (counter : CounterId) (worker : Worker) (held : List Addition) (seat : table.Seat (Unit {0}) View) : Type 0 where
+pub record IsWorker (counter : CounterId) (worker : Worker) (held : List Addition)
+    (seat : table.Seat (Unit {0}) View) : Type 0 where
   pub at : seat.table_id ≡ counter.table
   pub me : seat.me ≡ (worker_view counter.n counter.workers worker held, [])
 
@@ -48,7 +49,8 @@ pub record HasLoaded (counter : CounterId) (count : ℕ) (before after : table.S
   pub sees : Sees counter (worker_of before.me.0) (after_load count (worker_of before.me.0))
 
 -- the worker of the seat made the addition
-pub record HasAdded (counter : CounterId) (addition : Addition) (before after : table.Seat (Unit {0}) View) : Type 0 where
+pub record HasAdded (counter : CounterId) (addition : Addition)
+    (before after : table.Seat (Unit {0}) View) : Type 0 where
   pub worker : IsWorker counter (after_addition addition (worker_of before.me.0)) (in_hand counter.n addition) after
   pub later : (worker_of before.me.0).seen ≤ addition.begin
   pub sees : Sees counter (worker_of before.me.0) (after_addition addition (worker_of before.me.0))

@@ -13,7 +13,8 @@ AreCalls n claims calls = (index : ℕ) → times_called calls index ≡ times_c
 
 -- each index of the range was called once more
 abbrev pub CallsRange : (before : List ℕ) → ℕ × ℕ → (after : List ℕ) → Type 0
-CallsRange before range after = (index : ℕ) → times_called after index ≡ times_called before index + cond (in_range index range) 1 0
+CallsRange before range after =
+    (index : ℕ) → times_called after index ≡ times_called before index + cond (in_range index range) 1 0
 
 -- what holds of each answer that isn't a want of memory
 abbrev pub AllOk : {X E : Type 0} → (X → Type 0) → List (Result X E) → Type 0

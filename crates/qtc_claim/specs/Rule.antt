@@ -1,15 +1,16 @@
 -- The rule of a counter's table: one word, the counter, and no slots (own). It is a few sums over all views, so that
 -- each kind of step is judged by what one or two views change.
-use Rattle.std.specs.Prelude.{◌≡◌, ℕ, ◌+◌, ◌-◌, ◌*◌, ◌<◌, ◌≤◌, ◌==◌, cond, nat_lt, nat_le, List, [], ◌∷◌, ◌++◌, map, length, sum_by, count_by, All}
+use Rattle.std.specs.Prelude.{◌≡◌, ℕ, ◌+◌, ◌-◌, ◌*◌, ◌<◌, ◌≤◌, cond, nat_lt, nat_le, List, [], ◌∷◌, ◌++◌, map, length, sum_by, count_by, All}
 use Rattle.atomic_table.specs.Table.{State}
 use Rattle.qtc_base.specs.Ranges.{in_range}
 use Rattle.qtc_claim.specs.declared.rule.View.{View}
 use Rattle.qtc_claim.specs.declared.rule.Limits.{Limits}
-use Rattle.qtc_claim.specs.Claims.{IsWithinLimits, most_size, Addition, addition_at, Worker, new_worker, after_load, after_addition}
+use Rattle.qtc_claim.specs.Claims.{IsWithinLimits, most_size, Addition, addition_at, Worker, new_worker, after_load, after_addition, times_numbered}
 
--- Views. One shape serves all: what a seat is shows in what its view has. It has the workers that it is or gathered, the
--- ranges that it holds, and the numbers `next` and on, `unmade` of them, that it has still to give to workers. `n` and
--- `most` are the counter's indexes and workers.
+-- Views. One shape serves all: what a seat is shows in what its view has. That is the workers that it is or gathered,
+-- the ranges that it holds, and the numbers from `next` on, `unmade` of them, that it has still to give to workers.
+-- `n` and `most` are how many indexes and workers the counter has. What comes with tokens and receipts joins as
+-- further fields, further sums and further kinds of step.
 
 -- a worker, with its range in hand or none
 abbrev pub worker_view : (n most : ℕ) → Worker → List Addition → View
@@ -52,9 +53,9 @@ kept n weight view = sum_by weight view.held + claimed (blank n weight) view
 abbrev pub saw : ℕ → View → ℕ
 saw n view = count_by (λ worker. nat_le n worker.seen) view.workers
 
--- how many of its workers have the number, and those that it has still to give
+-- how often it has the number, as one of its workers' or as one that it has still to give
 abbrev pub numbered : ℕ → View → ℕ
-numbered number view = count_by (λ worker. worker.number == number) view.workers + covers number view.next view.unmade
+numbered number view = times_numbered number view.workers + covers number view.next view.unmade
 
 abbrev pub seats : View → ℕ
 seats view = length view.workers + view.unmade
@@ -94,7 +95,8 @@ pub record IsKept (key : Limits) (s : State (Unit {0}) View) : Type 0 where
 pub record KnowsAll (view : View) (count : ℕ) : Type 0 where
   pub tiles : (number : ℕ) → claimed (covering number) view ≡ covers number 0 count
   pub sizes : claimed (λ addition. addition.size) view ≡ count
-  pub nothing_out : kept view.n (λ addition. addition.size) view ≡ count → (number : ℕ) → kept view.n (covering number) view ≡ covers number 0 count
+  pub nothing_out : kept view.n (λ addition. addition.size) view ≡ count
+      → (number : ℕ) → kept view.n (covering number) view ≡ covers number 0 count
 
 pub record Knows (view : View) (count : ℕ) : Type 0 where
   pub right : IsRight view.n count view
@@ -142,10 +144,12 @@ gathered view other = record view { workers = view.workers ++ other.workers; hel
 -- was found, and what its owner knows now.
 
 abbrev pub Looks : View → ℕ → View → Type 0
-Looks before found after = (after ≡ looked found before) × All (λ worker. worker.seen ≤ found) before.workers × Knows after found
+Looks before found after =
+    (after ≡ looked found before) × All (λ worker. worker.seen ≤ found) before.workers × Knows after found
 
 abbrev pub Grows : ℕ → View → ℕ → View → Type 0
-Grows size before found after = (after ≡ grown found size before) × All (λ worker. worker.seen ≤ found) before.workers × Knows after (found + size)
+Grows size before found after =
+    (after ≡ grown found size before) × All (λ worker. worker.seen ≤ found) before.workers × Knows after (found + size)
 
 abbrev pub Reads : View → ℕ → View → Type 0
 Reads before found after = (after ≡ before) × Knows before found

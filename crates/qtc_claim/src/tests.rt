@@ -7,6 +7,7 @@ use crate::{Counter, Piece, Seat, Tally};
 use qtc_base::{NoMemory, Range};
 use std::alloc::Global;
 use std::test::Fail;
+use std::thread::{Threads, join};
 
 // A counter for two workers.
 fn for_two(alloc: Global, n: u32) -> Result<(Counter, Seat, Seat, Tally), NoMemory>
@@ -32,6 +33,19 @@ fn range_of(piece: &Option<Piece>) -> Option<(u32, u32)> {
     }
 }
 
+// Whether all is gathered, as another thread finds it.
+fn ends_elsewhere<R: Threads + Sync>(rt: &R, counter: &Counter, tally: Tally) -> bool
+    requires { tally.of ≡ counter.now }
+{
+    let end = move || -> bool
+        requires { tally.of ≡ counter.now }
+    {
+        let mut tally = tally;
+        counter.end(&mut tally)
+    };
+    join(rt, end, || ()).0
+}
+
 #[test]
 fn five_indexes_claimed_in_threes_end_once_all_is_gathered(rt: HostRuntime) -> Result<(), Fail> {
     let Ok((counter, mut first, mut second, mut tally)) = for_two(rt.alloc(), 5) else {
@@ -54,6 +68,6 @@ fn five_indexes_claimed_in_threes_end_once_all_is_gathered(rt: HostRuntime) -> R
     tally.gather_seat(&counter, second);
     assert!(rt; !counter.end(&mut tally));
     tally.gather(&counter, two);
-    assert!(rt; counter.end(&mut tally));
+    assert!(rt; counter.end(&mut tally) && ends_elsewhere(&rt, &counter, tally));
     Ok(())
 }

@@ -1,4 +1,5 @@
--- The rule of a lock over one word and one slot (own). The word says whether the value is out, and a seat's view whether the seat has it.
+-- The rule of a lock over one word and one slot (own). The word says whether the value is out, and a seat's view
+-- whether the seat has it.
 use Rattle.std.specs.Prelude.{◌≡◌, ◌≢◌, ℕ, ◌⊎◌, true, false, List, [], ◌∷◌, Option, Some, All, count_by}
 use mathlib.Core.Option.{none, some}
 use Rattle.atomic_table.specs.Table.{State, Me}

@@ -73,7 +73,8 @@ fn work<F: Fn(u32)>(
 ) -> Result<Worked, NoMemory>
     requires call { F.IsAlwaysCallable call.now }
     requires seat { (seat.of ≡ counter.now) × (seat.worker.claims ≡ []) }
-    ensures seat { IfOk result (λ worked. (worked.seat.of ≡ counter.now) × (counter.now.n ≤ worked.seat.worker.seen)) }
+    ensures seat { IfOk result (λ worked. worked.seat.of ≡ counter.now) }
+    ensures past { IfOk result (λ worked. counter.now.n ≤ worked.seat.worker.seen) }
     ensures calls { IfOk result (λ worked. AreCalls counter.now.n worked.seat.worker.claims worked.calls.items) }
     ensures pieces { IfOk result (λ worked. All (λ piece. piece.of ≡ counter.now) worked.pieces.items) }
 {
@@ -136,7 +137,8 @@ fn gather_all(
     mut all: Vec<Result<Worked, NoMemory>>,
 ) -> Result<Vec<u32>, NoMemory>
     requires tally { tally.old ≡ record { of = counter.now; pieces = []; workers = [] } }
-    requires seats { AllOk (λ worked. (worked.seat.of ≡ counter.now) × (counter.now.n ≤ worked.seat.worker.seen)) all.items }
+    requires seats { AllOk (λ worked. worked.seat.of ≡ counter.now) all.items }
+    requires past { AllOk (λ worked. counter.now.n ≤ worked.seat.worker.seen) all.items }
     requires calls { AllOk (λ worked. AreCalls counter.now.n worked.seat.worker.claims worked.calls.items) all.items }
     requires pieces { AllOk (λ worked. All (λ piece. piece.of ≡ counter.now) worked.pieces.items) all.items }
     ensures of { OnOk result (tally.new.of ≡ counter.now) }
@@ -173,7 +175,8 @@ fn call_each<F: Fn(u32) + Sync, P: Fn(u64) -> Sizes + Sync, R: Threads + Sync>(
         &|seat: Seat| -> Result<Worked, NoMemory>
             requires seat { (seat.of ≡ counter) × (seat.worker.claims ≡ []) }
             requires call { F.IsAlwaysCallable call.now × P.IsAlwaysCallable pick.now }
-            ensures seat { IfOk result (λ worked. (worked.seat.of ≡ counter) × (counter.n ≤ worked.seat.worker.seen)) }
+            ensures seat { IfOk result (λ worked. worked.seat.of ≡ counter) }
+            ensures past { IfOk result (λ worked. counter.n ≤ worked.seat.worker.seen) }
             ensures calls { IfOk result (λ worked. AreCalls counter.n worked.seat.worker.claims worked.calls.items) }
             ensures pieces { IfOk result (λ worked. All (λ piece. piece.of ≡ counter) worked.pieces.items) }
         {

@@ -9,7 +9,8 @@ invariant-loop-told l = record {
   count : length l.tally.workers + length l.all.items ≡ length l.initial.all.items;
   past : All (λ worker. l.counter.n ≤ worker.seen) l.tally.workers;
   calls : AreCalls l.counter.n (claims_of l.tally.workers) l.calls.items;
-  seats_left : All (λ told. IfOk told (λ worked. (worked.seat.of ≡ l.counter) × (l.counter.n ≤ worked.seat.worker.seen))) l.all.items;
+  seats_left : All (λ told. IfOk told (λ worked. worked.seat.of ≡ l.counter)) l.all.items;
+  past_left : All (λ told. IfOk told (λ worked. l.counter.n ≤ worked.seat.worker.seen)) l.all.items;
   calls_left : All (λ told. IfOk told (λ worked. AreCalls l.counter.n worked.seat.worker.claims worked.calls.items)) l.all.items;
   pieces_left : All (λ told. IfOk told (λ worked. All (λ piece. piece.of ≡ l.counter) worked.pieces.items)) l.all.items;
 }

@@ -1,4 +1,7 @@
-pub mod HearingLemmas
-pub mod LoadLemmas
-pub mod ReportLemmas
-pub mod RunLemmas
+pub mod Workers
+pub mod Names
+pub mod Texts
+pub mod Ends
+pub mod Checks
+pub mod Runs
+pub mod Sure

@@ -1,8 +1,11 @@
--- What a run of the program comes to.
-pub mod Form
-pub mod Hearing
-pub mod Lines
+-- What a call of the program comes to.
+pub mod Answered
+pub mod Check
+pub mod Commands
+pub mod Endings
+pub mod Forms
 pub mod Loads
+pub mod LoadSteps
 pub mod Refusals
-pub mod Report
 pub mod Run
+pub mod Seen

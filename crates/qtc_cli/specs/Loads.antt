@@ -1,55 +1,89 @@
--- What a run reads. (Own.)
-use Rattle.std.specs.Prelude.{◌≡◌, ◌⊎◌, ℕ, ◌+◌, ◌<◌, ◌≤◌, List, length, Option, IfSome}
-use Rattle.qtc_base.specs.Lines.{lines}
-use Rattle.qtc_base.specs.Items.{PassesLimit}
+-- What the program loads: a job file, and the texts that it names. (Own.)
+use Rattle.std.specs.Prelude.{◌≡◌, ℕ, ◌-◌, ◌≤◌, Bool, not, min, List, [], ◌∷◌, ◌++◌, length, map, filter, sum_by, All, IfSome}
+use Rattle.std.specs.Str.{bytes_eq}
 use Rattle.qtc_outside.specs.Counts.{risen}
-use Rattle.qtc_job.specs.declared.jobs.Job.{Job}
-use Rattle.qtc_job.specs.declared.parsing.TheConstants.{MOST_TEXT as MOST_FILE}
-use Rattle.qtc_job.specs.Grammar.{Reads, DepartsAt}
-use Rattle.qtc_cli.specs.declared.loads.TheConstants.{MOST_TEXT}
+use Rattle.qtc_outside.specs.Source.{Source, IsCalm}
+use Rattle.qtc_outside.specs.Loading.{Loads, NotLoaded, FailsToLoad, IsTooLong}
+use Rattle.qtc_outside.specs.declared.loading.LoadFault.{LoadFault}
+use Rattle.qtc_outside.specs.declared.loading.LoadFault.TheVariants.{Read, TooLong, Memory as NoMemory}
+use Rattle.qtc_job.specs.declared.jobs.BadJob.{BadJob}
+use Rattle.qtc_job.specs.declared.jobs.JobFile.{JobFile}
+use Rattle.qtc_job.specs.Limits.{most_text as most_job_file}
+use Rattle.qtc_job.specs.Lines.{lines_of}
+use Rattle.qtc_job.specs.Grammar.{Reads, IsLeastBad}
+use Rattle.qtc_run.specs.Loaded.{most_text}
+use Rattle.qtc_run.specs.Sources.{Texts, names_of_all}
 use Rattle.qtc_cli.specs.declared.refusals.Refusal.{Refusal}
-use Rattle.qtc_cli.specs.declared.refusals.Refusal.TheVariants.{Usage, Bad, ReadFault, WriteFault, Memory, TooLarge}
+use Rattle.qtc_cli.specs.declared.refusals.Refusal.TheVariants.{Bad, ReadFault, Memory, TooLarge}
 
--- where the source tells what it holds under the name, it is the text
-abbrev pub IsHeld : (List ℕ → Option (List ℕ)) → List ℕ → List ℕ → Type 0
-IsHeld held name text = IfSome (held name) (λ told. text ≡ told)
+-- the most bytes of all texts of a run
+abbrev pub most_texts : ℕ
+most_texts = 268435456
 
--- where the source tells what it holds under the name, it is longer than the limit, and a byte more was given
-abbrev pub IsTooLong : (List ℕ → Option (List ℕ)) → List ℕ → ℕ → ℕ → ℕ → Type 0
-IsTooLong held name limit old new = IfSome (held name) (λ told. limit < length told) × (new ≡ risen old (limit + 1))
+-- ---- the job file
 
--- the bytes of a job file of lawful length, all of which were given
-pub record LoadsFile (held : List ℕ → Option (List ℕ)) (name file : List ℕ) (old new : ℕ) : Type 0 where
-  pub held_so : IsHeld held name file
-  pub within : length file ≤ MOST_FILE
-  pub given : new ≡ risen old (length file)
+-- the text under the name was loaded, and reads as this file
+pub record LoadsFile (name : List ℕ) (old : Source) (file : JobFile) (new : Source) : Type 0 where
+  pub text : List ℕ
+  pub loads : Loads most_job_file old name text new
+  pub reads : Reads (lines_of text) file
 
--- the job that the grammar reads from such a file
-pub record LoadsJob (held : List ℕ → Option (List ℕ)) (name : List ℕ) (job : Job) (old new : ℕ) : Type 0 where
-  pub file : List ℕ
-  pub loads : LoadsFile held name file old new
-  pub reads : Reads (lines file) job
+-- the text under the name was loaded, and has a bad pair, of which this is the least
+pub record LoadsBad (name : List ℕ) (old : Source) (bad : BadJob) (new : Source) : Type 0 where
+  pub text : List ℕ
+  pub loads : Loads most_job_file old name text new
+  pub refuses : IsLeastBad (lines_of text) bad.line bad.code
 
--- the bytes of a text of lawful length, all of which were given
-pub record LoadsText (held : List ℕ → Option (List ℕ)) (name text : List ℕ) (old new : ℕ) : Type 0 where
-  pub held_so : IsHeld held name text
-  pub within : length text ≤ MOST_TEXT
-  pub given : new ≡ risen old (length text)
+-- ---- the texts
 
--- why a job was not loaded
-abbrev pub RefusesFile : (List ℕ → Option (List ℕ)) → List ℕ → ℕ → ℕ → Refusal → Type 0
-RefusesFile held name old new (Bad bad) = (file : List ℕ) × LoadsFile held name file old new × (bad.code ≡ 1) × DepartsAt (lines file) bad.line
-RefusesFile held name old new TooLarge = IsTooLong held name MOST_FILE old new
-RefusesFile held name old new ReadFault = Unit {0}
-RefusesFile held name old new Memory = Unit {0}
-RefusesFile held name old new Usage = ⊥
-RefusesFile held name old new WriteFault = ⊥
+-- each name once, in the order in which it comes first
+abbrev pub first_named : List (List ℕ) → List (List ℕ)
+first_named [] = []
+first_named (name ∷ names) = name ∷ filter (λ other. not (bytes_eq name other)) (first_named names)
 
--- why the lines of a text were not loaded
-abbrev pub RefusesText : (List ℕ → Option (List ℕ)) → List ℕ → ℕ → ℕ → Refusal → Type 0
-RefusesText held name old new TooLarge = IsTooLong held name MOST_TEXT old new ⊎ ((text : List ℕ) × LoadsText held name text old new × PassesLimit (lines text))
-RefusesText held name old new ReadFault = Unit {0}
-RefusesText held name old new Memory = Unit {0}
-RefusesText held name old new (Bad bad) = ⊥
-RefusesText held name old new Usage = ⊥
-RefusesText held name old new WriteFault = ⊥
+abbrev pub texts_named : JobFile → List (List ℕ)
+texts_named file = first_named (names_of_all file.jobs)
+
+abbrev pub name_of : List ℕ × List ℕ → List ℕ
+name_of text = text.0
+
+-- how many bytes texts have together
+abbrev pub bytes_of : Texts → ℕ
+bytes_of texts = sum_by (λ text. length text.1) texts
+
+-- the texts under these names were loaded, each is what is held, where that is told, and all of them were given
+pub record LoadsTexts (names : List (List ℕ)) (old : Source) (texts : Texts) (new : Source) : Type 0 where
+  pub under : map name_of texts ≡ names
+  pub told : All (λ text. IfSome (old.held text.0) (λ held. text.1 ≡ held)) texts
+  pub short : All (λ text. length text.1 ≤ most_text) texts
+  pub few : bytes_of texts ≤ most_texts
+  pub taken : new.taken ≡ risen old.taken (bytes_of texts)
+  pub calm : IsCalm old new
+
+-- how long the next text may be after these
+abbrev pub room_after : Texts → ℕ
+room_after texts = min most_text (most_texts - bytes_of texts)
+
+-- the texts before this name were loaded, and the one under it was not, for this fault
+pub record StopsAt (names : List (List ℕ)) (old : Source) (fault : LoadFault) (name : List ℕ) (new : Source) : Type 0 where
+  pub before : List (List ℕ)
+  pub after : List (List ℕ)
+  pub names_are : names ≡ before ++ name ∷ after
+  pub texts : Texts
+  pub between : Source
+  pub loads : LoadsTexts before old texts between
+  pub stops : NotLoaded (room_after texts) between name fault new
+
+-- why the texts under these names were not all loaded
+abbrev pub TextsStop : List (List ℕ) → Source → LoadFault → Source → Type 0
+TextsStop names old Read new = (name : List ℕ) × StopsAt names old Read name new
+TextsStop names old TooLong new = (name : List ℕ) × StopsAt names old TooLong name new
+TextsStop names old NoMemory new = IsCalm old new
+
+-- why the job file under a name was not read
+abbrev pub FileStops : List ℕ → Source → Refusal → Source → Type 0
+FileStops name old (Bad bad) new = LoadsBad name old bad new
+FileStops name old ReadFault new = FailsToLoad most_job_file old name new
+FileStops name old TooLarge new = IsTooLong most_job_file old name new
+FileStops name old Memory new = IsCalm old new
+FileStops name old _ new = ⊥

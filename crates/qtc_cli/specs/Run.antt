@@ -1,124 +1,181 @@
--- What a call of the program comes to. (Own.)
-use Rattle.std.specs.Prelude.{◌≡◌, ◌⊎◌, ℕ, ◌<◌, ◌≤◌, ◌==◌, if◌then◌else◌, List, [], ◌∷◌, ◌++◌, length, take, codes, Option, Some, None}
-use Rattle.qtc_base.specs.Lines.{lines}
+-- What a call that runs a job file comes to. (Own.)
+use Rattle.std.specs.Prelude.{◌≡◌, ◌≢◌, ◌⊎◌, ◌↔◌, ◌≤◌, ℕ, Bool, List, [], length, map, All, Option, Some, None, IsTrue, if◌then◌else◌}
 use Rattle.qtc_base.specs.Items.{PassesLimit}
-use Rattle.qtc_outside.specs.Writing.{Takes}
-use Rattle.qtc_job.specs.declared.jobs.Job.{Job}
-use Rattle.qtc_job.specs.declared.jobs.BadJob.{BadJob}
-use Rattle.qtc_job.specs.declared.parsing.TheConstants.{MOST_TEXT as MOST_FILE}
-use Rattle.qtc_job.specs.Grammar.{Reads, source_of}
-use Rattle.qtc_cli.specs.declared.loads.TheConstants.{MOST_TEXT}
+use Rattle.qtc_outside.specs.Source.{Source, IsCalm}
+use Rattle.qtc_outside.specs.Intake.{Intake, Takes, IsCut}
+use Rattle.qtc_outside.specs.Loading.{FailsToLoad, IsTooLong}
+use Rattle.qtc_outside.specs.declared.loading.LoadFault.{LoadFault}
+use Rattle.qtc_outside.specs.declared.loading.LoadFault.TheVariants.{Read, TooLong}
+use Rattle.qtc_job.specs.declared.jobs.JobFile.{JobFile}
+use Rattle.qtc_job.specs.Grammar.{Reads}
+use Rattle.qtc_job.specs.Limits.{most_text as most_job_file}
+use Rattle.qtc_job.specs.Lines.{lines_of}
+use Rattle.qtc_run.specs.Loaded.{most_text}
+use Rattle.qtc_run.specs.Reports.{reported, report_text, all_calls, has_failed}
+use Rattle.qtc_run.specs.Runnable.{are_runnable}
+use Rattle.qtc_run.specs.Sources.{Texts, items_of_all}
+use Rattle.qtc_cli.specs.Answered.{IsDone, KeepsOutside, IsBadJob, HasNoFaults}
+use Rattle.qtc_cli.specs.Check.{IsCheck}
+use Rattle.qtc_cli.specs.Endings.{IsRefused, Writes}
+use Rattle.qtc_cli.specs.Forms.{Form, form, run, check}
+use Rattle.qtc_cli.specs.Loads.{most_texts, LoadsFile, LoadsBad, LoadsTexts, StopsAt, texts_named, name_of, bytes_of}
+use Rattle.qtc_cli.specs.Seen.{Seen}
 use Rattle.qtc_cli.specs.declared.refusals.Refusal.{Refusal}
-use Rattle.qtc_cli.specs.declared.refusals.Refusal.TheVariants.{Usage, Bad, ReadFault, WriteFault, Memory, TooLarge}
-use Rattle.qtc_cli.specs.Hearing.{Hears}
-use Rattle.qtc_cli.specs.Lines.{bad_line, usage_line}
-use Rattle.qtc_cli.specs.Loads.{LoadsJob, LoadsText, RefusesFile, RefusesText}
-use Rattle.qtc_cli.specs.Report.{report_over, EachOnce}
+use Rattle.qtc_cli.specs.declared.refusals.Refusal.TheVariants.{Bad, ReadFault, Memory, TooLarge, NotYet}
 
--- what a run loads: the job of the job file, and the text that the job names
-pub record Run (held : List ℕ → Option (List ℕ)) (name : List ℕ) (old new : ℕ) : Type 0 where
-  pub job : Job
-  pub between : ℕ
-  pub job_loads : LoadsJob held name job old between
+-- the words are run JOB, perhaps with a number of workers
+abbrev pub RunsFile : Seen → List ℕ → Type 0
+RunsFile call name = (workers : Option ℕ) × (form call.words ≡ Some (run workers name))
+
+-- a job file that reads as this one, of jobs that are all run so far, and the texts that it names were loaded; their
+-- items keep their limits
+pub record Ran (name : List ℕ) (old : Source) (file : JobFile) (texts : Texts) (new : Source) : Type 0 where
+  pub between : Source
+  pub file_loads : LoadsFile name old file between
+  pub runnable : IsTrue (are_runnable file.jobs)
+  pub texts_load : LoadsTexts (texts_named file) between texts new
+  pub fits : ¬ PassesLimit (items_of_all texts file.jobs)
+
+-- what is written: job by job the report of its sequential answer
+abbrev pub written : JobFile → Texts → List ℕ
+written file texts = report_text file (reported texts file)
+
+-- the report was written, it has a failed job exactly where the status is 1, and these were the calls of the jobs'
+-- functions
+pub record IsRun (call : Seen) (calls : List ℕ) : Type 0 where
+  pub name : List ℕ
+  pub named : RunsFile call name
+  pub file : JobFile
+  pub texts : Texts
+  pub ran : Ran name call.texts file texts call.texts_after
+  pub writes : Takes call.out (written file texts) call.out_after
+  pub failed : (call.status ≡ 1) ↔ IsTrue (has_failed (reported texts file))
+  pub calls_are : calls ≡ all_calls (reported texts file)
+
+-- a front of the report was written, and not the whole
+pub record IsRunCut (call : Seen) (calls : List ℕ) : Type 0 where
+  pub name : List ℕ
+  pub named : RunsFile call name
+  pub file : JobFile
+  pub texts : Texts
+  pub ran : Ran name call.texts file texts call.texts_after
+  pub taken : ℕ
+  pub front : IsCut call.out (written file texts) taken call.out_after
+  pub calls_are : calls ≡ all_calls (reported texts file)
+
+-- the job file was loaded, all of its jobs are run so far, and one of the texts that it names was not loaded
+pub record IsTextRefused (fault : LoadFault) (name : List ℕ) (old new : Source) : Type 0 where
+  pub file : JobFile
+  pub between : Source
+  pub file_loads : LoadsFile name old file between
+  pub runnable : IsTrue (are_runnable file.jobs)
   pub text : List ℕ
-  pub text_loads : LoadsText held (source_of job.input) text between new
+  pub stops : StopsAt (texts_named file) between fault text new
 
--- the report of a run, and the calls of its function
-pub record Forms (held : List ℕ → Option (List ℕ)) (name : List ℕ) (old new : ℕ) (report calls : List ℕ) : Type 0 where
-  pub run : Run held name old new
-  pub says : report ≡ report_over run.job run.text
-  pub each_once : EachOnce (length (lines run.text)) calls
+-- a fault came under the name of the job file, or of a text that it names
+abbrev pub IsReadFault : List ℕ → Source → Source → Type 0
+IsReadFault name old new = FailsToLoad most_job_file old name new ⊎ IsTextRefused Read name old new
 
--- a limit on the job file, on the text that its job names, or on that text's lines is passed
-abbrev pub PassesOne : (List ℕ → Option (List ℕ)) → List ℕ → ℕ → ℕ → Type 0
-PassesOne held name old new =
-    RefusesFile held name old new TooLarge
-    ⊎ ((job : Job) × (between : ℕ) × LoadsJob held name job old between × RefusesText held (source_of job.input) between new TooLarge)
+-- the items of the jobs are more than those of a run may be
+pub record HasManyItems (name : List ℕ) (old new : Source) : Type 0 where
+  pub file : JobFile
+  pub texts : Texts
+  pub between : Source
+  pub file_loads : LoadsFile name old file between
+  pub runnable : IsTrue (are_runnable file.jobs)
+  pub texts_load : LoadsTexts (texts_named file) between texts new
+  pub passes : PassesLimit (items_of_all texts file.jobs)
 
--- the name of the job file, or of the text that its job names
-abbrev pub BlamesOwn : (List ℕ → Option (List ℕ)) → List ℕ → Option (List ℕ) → Type 0
-BlamesOwn held name blamed =
-    (blamed ≡ Some name)
-    ⊎ ((job : Job) × (old : ℕ) × (between : ℕ) × LoadsJob held name job old between × (blamed ≡ Some (source_of job.input)))
+-- the job file is too long, or a text by itself or with those before it, or the items are too many
+abbrev pub IsTooLarge : List ℕ → Source → Source → Type 0
+IsTooLarge name old new =
+    IsTooLong most_job_file old name new ⊎ IsTextRefused TooLong name old new ⊎ HasManyItems name old new
 
--- why a run forms no report
-abbrev pub RefusesRun : (List ℕ → Option (List ℕ)) → List ℕ → ℕ → ℕ → Refusal → Type 0
-RefusesRun held name old new (Bad bad) = RefusesFile held name old new (Bad bad)
-RefusesRun held name old new TooLarge = PassesOne held name old new
-RefusesRun held name old new ReadFault = Unit {0}
-RefusesRun held name old new Memory = Unit {0}
-RefusesRun held name old new Usage = ⊥
-RefusesRun held name old new WriteFault = ⊥
+-- the job file has a job that isn't run so far; no text was asked for
+pub record IsNotYet (name : List ℕ) (old new : Source) : Type 0 where
+  pub file : JobFile
+  pub file_loads : LoadsFile name old file new
+  pub unready : ¬ IsTrue (are_runnable file.jobs)
 
--- the words name a job file, whose run wrote its whole report, and called its function on each index once
-pub record Finishes (named : Option (List ℕ)) (held : List ℕ → Option (List ℕ)) (old new : ℕ) (out_old out_new : Option (List ℕ)) (calls : List ℕ) : Type 0 where
+-- the source tells a job file of jobs that are run so far, and the texts that it names, all within their limits
+pub record CanRun (call : Seen) : Type 0 where
   pub name : List ℕ
-  pub named_so : named ≡ Some name
-  pub run : Run held name old new
-  pub writes : Takes out_old out_new (report_over run.job run.text)
-  pub each_once : EachOnce (length (lines run.text)) calls
-
--- the words name a job file, whose run wrote less than its report
-pub record Cuts (named : Option (List ℕ)) (held : List ℕ → Option (List ℕ)) (old new : ℕ) (out_old out_new : Option (List ℕ)) : Type 0 where
-  pub name : List ℕ
-  pub named_so : named ≡ Some name
-  pub run : Run held name old new
-  pub count : ℕ
-  pub short : count < length (report_over run.job run.text)
-  pub front : Takes out_old out_new (take count (report_over run.job run.text))
-
--- the words name a job file, which the grammar refuses at a place that err was told
-pub record RefusesJob (named : Option (List ℕ)) (held : List ℕ → Option (List ℕ)) (old new : ℕ) (err_old err_new : Option (List ℕ)) (faults_old faults_new : ℕ) : Type 0 where
-  pub name : List ℕ
-  pub named_so : named ≡ Some name
-  pub bad : BadJob
-  pub refuses : RefusesFile held name old new (Bad bad)
-  pub hears : Hears (bad_line bad) err_old err_new faults_old faults_new
-
--- the words name a job file, and with it a limit is passed
-abbrev pub Passes : Option (List ℕ) → (List ℕ → Option (List ℕ)) → ℕ → ℕ → Type 0
-Passes named held old new = (name : List ℕ) × (named ≡ Some name) × PassesOne held name old new
-
--- the words name a job file, and it or its text is to blame
-abbrev pub Blames : Option (List ℕ) → (List ℕ → Option (List ℕ)) → Option (List ℕ) → Type 0
-Blames named held blamed = (name : List ℕ) × (named ≡ Some name) × BlamesOwn held name blamed
-
--- the words name a job file
-abbrev pub IsNamed : Option (List ℕ) → Type 0
-IsNamed named = (name : List ℕ) × (named ≡ Some name)
-
--- why a call writes no whole report, and what it wrote
-abbrev pub Stops : Option (List ℕ) → (List ℕ → Option (List ℕ)) → ℕ → ℕ → Option (List ℕ) → Option (List ℕ) → Refusal → Type 0
-Stops named held old new out_old out_new Usage = (named ≡ None) × Takes out_old out_new []
-Stops named held old new out_old out_new (Bad bad) = ((name : List ℕ) × (named ≡ Some name) × RefusesFile held name old new (Bad bad)) × Takes out_old out_new []
-Stops named held old new out_old out_new ReadFault = IsNamed named × Takes out_old out_new []
-Stops named held old new out_old out_new WriteFault = Cuts named held old new out_old out_new
-Stops named held old new out_old out_new Memory = IsNamed named × Takes out_old out_new []
-Stops named held old new out_old out_new TooLarge = Passes named held old new × Takes out_old out_new []
-
--- the source tells a job file that reads as a job, and a text that it names, both within their limits
-pub record CanFinish (named : Option (List ℕ)) (held : List ℕ → Option (List ℕ)) : Type 0 where
-  pub name : List ℕ
-  pub named_so : named ≡ Some name
-  pub file : List ℕ
-  pub holds_file : held name ≡ Some file
-  pub short_file : length file ≤ MOST_FILE
-  pub job : Job
-  pub reads : Reads (lines file) job
+  pub named : RunsFile call name
   pub text : List ℕ
-  pub holds_text : held (source_of job.input) ≡ Some text
-  pub short_text : length text ≤ MOST_TEXT
-  pub fits : ¬ PassesLimit (lines text)
+  pub held : call.texts.held name ≡ Some text
+  pub short : length text ≤ most_job_file
+  pub file : JobFile
+  pub reads : Reads (lines_of text) file
+  pub runnable : IsTrue (are_runnable file.jobs)
+  pub texts : Texts
+  pub under : map name_of texts ≡ texts_named file
+  pub told : All (λ t. call.texts.held t.0 ≡ Some t.1) texts
+  pub each : All (λ t. length t.1 ≤ most_text) texts
+  pub few : bytes_of texts ≤ most_texts
+  pub fits : ¬ PassesLimit (items_of_all texts file.jobs)
 
-abbrev pub IsStatus : ℕ → Type 0
-IsStatus status = (status ≡ 0) ⊎ ((2 ≤ status) × (status ≤ 7))
+-- what a call of the form run, or of none, comes to
+pub record RunsAsSaid (call : Seen) (calls : List ℕ) : Type 0 where
+  pub finished : IsDone call.status → IsRun call calls
+  pub usage : (call.status ≡ 2) ↔ (form call.words ≡ None)
+  pub bad_job : call.status ≡ 3 → (name : List ℕ) × RunsFile call name × IsBadJob name call
+  pub read_fault : call.status ≡ 4 → (name : List ℕ) × RunsFile call name × IsReadFault name call.texts call.texts_after
+  pub write_fault : call.status ≡ 5 → IsRunCut call calls
+  pub too_large : call.status ≡ 7 → (name : List ℕ) × RunsFile call name × IsTooLarge name call.texts call.texts_after
+  pub not_yet : call.status ≡ 8 → (name : List ℕ) × RunsFile call name × IsNotYet name call.texts call.texts_after
+  pub only : call.status ≤ 8
+  pub complete : CanRun call → HasNoFaults call → IsDone call.status ⊎ (call.status ≡ 6)
+  pub no_calls : (IsDone call.status → ⊥) → call.status ≢ 5 → calls ≡ []
+  pub outside : KeepsOutside call
 
--- the line of each status but 3, whose line names the place
-abbrev pub fixed_line : ℕ → List ℕ
-fixed_line status =
-    if status == 2 then usage_line
-    else if status == 4 then codes "qtc: read fault" ++ 10 ∷ []
-    else if status == 5 then codes "qtc: write fault" ++ 10 ∷ []
-    else if status == 6 then codes "qtc: out of memory" ++ 10 ∷ []
-    else if status == 7 then codes "qtc: too large" ++ 10 ∷ []
-    else []
+abbrev pub by_form : Option Form → Seen → List ℕ → Type 0
+by_form (Some (check name)) call calls = IsCheck call × (calls ≡ [])
+by_form (Some (run workers name)) call calls = RunsAsSaid call calls
+by_form None call calls = RunsAsSaid call calls
+
+-- a call of the program: check JOB is handed on, and every other is run or refused
+abbrev pub IsCall : Seen → List ℕ → Type 0
+IsCall call calls = by_form (form call.words) call calls
+
+-- ---- the steps of it
+
+-- why a run has no report
+abbrev pub RunStops : List ℕ → Source → Refusal → Source → Type 0
+RunStops name old (Bad bad) new = LoadsBad name old bad new
+RunStops name old ReadFault new = IsReadFault name old new
+RunStops name old TooLarge new = IsTooLarge name old new
+RunStops name old NotYet new = IsNotYet name old new
+RunStops name old Memory new = IsCalm old new
+RunStops name old _ new = ⊥
+
+-- what a run formed: its report, whether a job failed, and the calls of the jobs' functions
+pub record Forms (name : List ℕ) (old : Source) (text : List ℕ) (failed : Bool) (calls : List ℕ) (new : Source) : Type 0 where
+  pub file : JobFile
+  pub texts : Texts
+  pub ran : Ran name old file texts new
+  pub text_is : text ≡ written file texts
+  pub failed_is : failed ≡ has_failed (reported texts file)
+  pub calls_are : calls ≡ all_calls (reported texts file)
+
+-- 1 where a job failed
+abbrev pub done_status : Bool → ℕ
+done_status failed = if failed then 1 else 0
+
+-- a report was formed and written; or none was formed, and nothing was written or called
+pub record WritesRun (name : List ℕ) (texts texts_after : Source) (out out_after err err_after : Intake) (status : ℕ) (calls : List ℕ) : Type 0 where
+  pub text : List ℕ
+  pub failed : Bool
+  pub forms : Forms name texts text failed calls texts_after
+  pub writes : Writes text (done_status failed) status out out_after err err_after
+
+pub record RefusesRun (name : List ℕ) (texts texts_after : Source) (out out_after err err_after : Intake) (status : ℕ) (calls : List ℕ) : Type 0 where
+  pub refusal : Refusal
+  pub stops : RunStops name texts refusal texts_after
+  pub refused : IsRefused refusal status err err_after
+  pub untouched : out_after ≡ out
+  pub no_calls : calls ≡ []
+
+abbrev pub RunEnds : (name : List ℕ) (texts texts_after : Source) (out out_after err err_after : Intake) (status : ℕ) (calls : List ℕ) → Type 0
+RunEnds name texts texts_after out out_after err err_after status calls =
+    WritesRun name texts texts_after out out_after err err_after status calls
+    ⊎ RefusesRun name texts texts_after out out_after err err_after status calls

@@ -1,76 +1,106 @@
-ghost use Rattle.std.specs.Prelude.{◌≡◌, ◌⊎◌, ◌≤◌, ℕ, List, [], ◌∷◌, length, Some, IfOk, IfErr, IsErrOf};
-ghost use Rattle.qtc_base.specs.Items.{PassesLimit};
-ghost use Rattle.qtc_base.specs.Lines.{lines};
-ghost use Rattle.qtc_outside.specs.Counts.{Rose};
-ghost use Rattle.qtc_job.specs.Grammar.{source_of};
-ghost use Rattle.qtc_cli.specs.Loads.{LoadsJob, LoadsText, RefusesFile, RefusesText};
+ghost use Rattle.std.specs.Prelude.{◌≡◌, ◌≤◌, [], IfOk, IfErr, OnOk};
+ghost use Rattle.qtc_run.specs.Loaded.{HasAll};
+ghost use Rattle.qtc_run.specs.Sources.{names_of_all};
+ghost use Rattle.qtc_run.specs.Sums.{IsCountable};
+ghost use Rattle.qtc_cli.specs.Loads.{LoadsFile, LoadsTexts, FileStops, TextsStop, bytes_of, texts_named as texts_to_load, most_texts};
+ghost use Rattle.qtc_cli.specs.LoadSteps.{LoadsNext, LoadsMore, NextStops, NamesStop};
 
 use crate::refusals::Refusal;
-use qtc_base::{Items, Lines};
-use qtc_job::{Input, Job, JobFile, parse};
-use qtc_outside::{Texts, read_text};
+use qtc_base::Bytes;
+use qtc_job::{JobFile, parse};
+use qtc_outside::{LoadFault, Texts, read_text};
+use qtc_run::{Loaded, texts_named};
 use std::alloc::Global;
 
 /// The most bytes of a job file.
-const MOST_FILE: u64 = 1_048_576;
+const MOST_JOB_FILE: u64 = 1_048_576;
 
-/// The most bytes of a text.
-pub const MOST_TEXT: u64 = 67_108_864;
+/// The most bytes of one text.
+const MOST_TEXT: u64 = 67_108_864;
 
-/// The only job of a job file.
-fn only_job(file: JobFile) -> Job
-    requires { length file.jobs ≡ 1 }
-    ensures { file.jobs ≡ result ∷ [] }
+/// The most bytes of all texts of a run.
+const MOST_TEXTS: u64 = 268_435_456;
+
+/// Loads the job file under `name`, and reads it.
+pub fn load_file<T: Texts>(alloc: Global, texts: &mut T, name: &[u8]) -> Result<JobFile, Refusal>
+    ensures ok { IfOk result (λ file. LoadsFile name.now (T.source texts.old) file (T.source texts.new)) }
+    ensures countable { IfOk result IsCountable }
+    ensures err { IfErr result (λ refusal. FileStops name.now (T.source texts.old) refusal (T.source texts.new)) }
 {
-    let mut jobs = file.jobs.into_vec();
-    let job = jobs.pop().unwrap();
-    job
+    let text = read_text(alloc, texts, name, MOST_JOB_FILE)?;
+    let file = parse(alloc, text.as_slice())?;
+    Ok(file)
 }
 
-/// Loads the job file under `name`, and reads its job.
-pub fn load_job<T: Texts>(alloc: Global, texts: &mut T, name: &[u8]) -> Result<Job, Refusal>
-    ensures loads { IfOk result (λ job. LoadsJob (T.held texts.old) name.now job (T.taken texts.old) (T.taken texts.new)) }
-    ensures refuses { IfErr result (RefusesFile (T.held texts.old) name.now (T.taken texts.old) (T.taken texts.new)) }
-    ensures fault { IsErrOf result Refusal.ReadFault → Rose (T.faults texts.old) (T.faults texts.new) }
-    ensures blamed { IsErrOf result Refusal.ReadFault → T.blamed texts.new ≡ Some name.now }
-    ensures holds { T.held texts.new ≡ T.held texts.old }
-    ensures never_falls { T.faults texts.old ≤ T.faults texts.new }
-{
-    let file = read_text(alloc, texts, name, MOST_FILE)?;
-    let file = parse(alloc, file.as_slice())?;
-    Ok(only_job(file))
+/// The texts so far, and how many bytes they have together.
+#[derive(Drop)]
+struct Shelf {
+    loaded: Loaded,
+    bytes: u64,
+    ghost counted: { bytes ≡ bytes_of loaded },
+    ghost few: { bytes ≤ most_texts },
 }
 
-/// The name of the text that a job reads.
-pub fn source_name(input: &Input) -> &[u8]
-    ensures { result.now ≡ source_of input.now }
+/// Loads the text under a name, unless it is there.
+fn load_named<T: Texts>(
+    alloc: Global,
+    texts: &mut T,
+    name: &[u8],
+    shelf: &mut Shelf,
+) -> Result<(), LoadFault>
+    ensures ok { OnOk result (LoadsNext shelf.old.loaded (T.source texts.old) name.now shelf.new.loaded (T.source texts.new)) }
+    ensures err { IfErr result (λ fault. NextStops shelf.old.loaded (T.source texts.old) name.now fault (T.source texts.new)) }
 {
-    match input {
-        Input::Lines(name) => name.as_slice(),
+    if shelf.loaded.get(name).is_some() {
+        return Ok(());
     }
+    let room = MOST_TEXT.min(MOST_TEXTS - shelf.bytes);
+    let text = read_text(alloc, texts, name, room)?;
+    let bytes = shelf.bytes + text.len() as u64;
+    let name = Bytes::from_slice(alloc, name)?;
+    shelf.loaded.add(name, text)?;
+    shelf.bytes = bytes;
+    Ok(())
 }
 
-/// The lines of a text, as items.
-fn items_of(alloc: Global, text: &[u8]) -> Result<Items, Refusal>
-    ensures items { IfOk result (λ items. items ≡ lines text.now) }
-    ensures refuses { IfErr result (λ refusal. (refusal ≡ Refusal.Memory) ⊎ ((refusal ≡ Refusal.TooLarge) × PassesLimit (lines text.now))) }
+/// Loads the texts under these names, each once.
+fn load_all<T: Texts>(
+    alloc: Global,
+    texts: &mut T,
+    names: &[Bytes],
+    shelf: &mut Shelf,
+) -> Result<(), LoadFault>
+    ensures ok { OnOk result (LoadsMore names.now shelf.old.loaded (T.source texts.old) shelf.new.loaded (T.source texts.new)) }
+    ensures err { IfErr result (λ fault. NamesStop names.now shelf.old.loaded (T.source texts.old) fault (T.source texts.new)) }
 {
-    let mut items = Items::new(alloc);
-    for line in Lines::new(text) {
-        items.push(line)?;
+    for name in names {
+        match load_named(alloc, texts, name.as_slice(), shelf) {
+            Ok(()) => {}
+            Err(fault) => return Err(fault),
+        }
     }
-    Ok(items)
+    Ok(())
 }
 
-/// Loads the text under `name`, and cuts it into lines.
-pub fn load_lines<T: Texts>(alloc: Global, texts: &mut T, name: &[u8]) -> Result<Items, Refusal>
-    ensures loads { IfOk result (λ items. (text : List ℕ) × LoadsText (T.held texts.old) name.now text (T.taken texts.old) (T.taken texts.new) × (items ≡ lines text)) }
-    ensures refuses { IfErr result (RefusesText (T.held texts.old) name.now (T.taken texts.old) (T.taken texts.new)) }
-    ensures fault { IsErrOf result Refusal.ReadFault → Rose (T.faults texts.old) (T.faults texts.new) }
-    ensures blamed { IsErrOf result Refusal.ReadFault → T.blamed texts.new ≡ Some name.now }
-    ensures holds { T.held texts.new ≡ T.held texts.old }
-    ensures never_falls { T.faults texts.old ≤ T.faults texts.new }
+/// Loads the texts that a job file names, each once, in the order in which they are named first.
+pub fn load_texts<T: Texts>(
+    alloc: Global,
+    texts: &mut T,
+    file: &JobFile,
+) -> Result<Loaded, LoadFault>
+    ensures ok { IfOk result (λ loaded. LoadsTexts (texts_to_load file.now) (T.source texts.old) loaded (T.source texts.new)) }
+    ensures all { IfOk result (λ loaded. HasAll loaded (names_of_all file.now.jobs)) }
+    ensures err { IfErr result (λ fault. TextsStop (texts_to_load file.now) (T.source texts.old) fault (T.source texts.new)) }
 {
-    let text = read_text(alloc, texts, name, MOST_TEXT)?;
-    items_of(alloc, text.as_slice())
+    let mut shelf = Shelf {
+        loaded: Loaded::new(alloc),
+        bytes: 0,
+    };
+    for job in file.jobs.as_slice() {
+        match load_all(alloc, texts, texts_named(&job.input), &mut shelf) {
+            Ok(()) => {}
+            Err(fault) => return Err(fault),
+        }
+    }
+    Ok(shelf.loaded)
 }

@@ -1,6 +1,7 @@
-//! `qtc` runs the job of a job file over a text, and writes its report.
+//! `qtc` runs the jobs of a job file over the texts that it names, and writes their reports.
 #![tactic(auto)]
 
+use endings::refuse;
 use qtc_outside::{FileTexts, NoGate, StdSink};
 use refusals::Refusal;
 use run::run_words;
@@ -8,10 +9,11 @@ use std::alloc::Global;
 use std::process::ExitCode;
 use std::{env, io};
 
+mod check;
 mod command_forms;
+mod endings;
 mod loads;
 mod refusals;
-mod reports;
 mod run;
 
 /// The words after the program's name.
@@ -40,7 +42,7 @@ fn main(rt: HostRuntime) -> ExitCode {
             let mut texts = FileTexts::new(rt);
             run_words(alloc, &words, &mut texts, &mut out, &mut err, &NoGate).status
         }
-        Err(fault) => refusal_of(&fault).tell(alloc, &mut err),
+        Err(fault) => refuse(alloc, refusal_of(&fault), &mut err),
     };
     ExitCode::from(status)
 }

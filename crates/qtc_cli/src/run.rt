@@ -1,83 +1,105 @@
-ghost use Rattle.std.specs.Prelude.{◌≡◌, ◌≢◌, ◌⊎◌, ◌↔◌, ◌<◌, ℕ, List, [], None, length, take, map, string_bytes, OnOk, IfOk, OnErr, IfErr};
-ghost use Rattle.qtc_outside.specs.Counts.{Rose};
-ghost use Rattle.qtc_outside.specs.Writing.{Takes};
-ghost use Rattle.qtc_cli.specs.Form.{form};
-ghost use Rattle.qtc_cli.specs.Hearing.{Hears};
-ghost use Rattle.qtc_cli.specs.Run.{Forms, RefusesRun, BlamesOwn, Finishes, Cuts, RefusesJob, Passes, Blames, Stops, CanFinish, IsStatus, fixed_line};
+ghost use Rattle.std.specs.Prelude.{◌≡◌, [], map, string_bytes, IfOk, IfErr};
+ghost use Rattle.qtc_cli.specs.Endings.{IsRefused};
+ghost use Rattle.qtc_cli.specs.Run.{Forms, RunStops, RunEnds, IsCall};
+ghost use Rattle.qtc_cli.specs.Seen.{seen};
 
-use crate::command_forms::job_file;
-use crate::loads::{load_job, load_lines, source_name};
+use crate::check::check_named;
+use crate::command_forms::{Task, command_of};
+use crate::endings::{refuse, write_text};
+use crate::loads::{load_file, load_texts};
 use crate::refusals::Refusal;
-use crate::reports::{Formed, form_report};
-use qtc_base::List;
-use qtc_outside::{Gate, Sink, Texts, write_all};
+use qtc_base::{Bytes, List};
+use qtc_outside::{Gate, Sink, Texts};
+use qtc_run::{is_runnable, report_text, run_file};
 use std::alloc::Global;
 
 /// How a call of the program ended.
 #[derive(Drop)]
 pub struct Ended {
-    /// 0 where the report was written, else why it was not: 2 usage, 3 bad job file, 4 read fault,
-    /// 5 write fault, 6 out of memory, 7 too large.
+    /// 0 where all was written, and 1 where a job failed too; else why not: 2 usage, 3 bad job file, 4 read
+    /// fault, 5 write fault, 6 out of memory, 7 too large, 8 not yet.
     pub status: u8,
-    /// The indexes that the job's function was called on, where the status is 0.
+    /// The indexes that the jobs' functions were called on, one job after the other, where a report was formed.
     pub calls: List<u32>,
 }
 
-/// Loads the job file and the text that it names, and forms the report.
+/// What a run forms before it writes.
+#[derive(Drop)]
+struct Formed {
+    text: Bytes,
+    failed: bool,
+    calls: List<u32>,
+}
+
+/// Loads the job file and the texts that it names, runs its jobs, and forms the report.
 fn form_run<T: Texts, G: Gate>(
     alloc: Global,
     name: &[u8],
     texts: &mut T,
     gate: &G,
 ) -> Result<Formed, Refusal>
-    ensures formed { IfOk result (λ formed. Forms (T.held texts.old) name.now (T.taken texts.old) (T.taken texts.new) formed.text formed.calls) }
-    ensures refuses { IfErr result (RefusesRun (T.held texts.old) name.now (T.taken texts.old) (T.taken texts.new)) }
-    ensures fault { result ≡ Err Refusal.ReadFault → Rose (T.faults texts.old) (T.faults texts.new) }
-    ensures blames { result ≡ Err Refusal.ReadFault → BlamesOwn (T.held texts.old) name.now (T.blamed texts.new) }
+    ensures ok { IfOk result (λ f. Forms name.now (T.source texts.old) f.text f.failed f.calls (T.source texts.new)) }
+    ensures err { IfErr result (λ refusal. RunStops name.now (T.source texts.old) refusal (T.source texts.new)) }
 {
-    let job = load_job(alloc, texts, name)?;
-    let items = load_lines(alloc, texts, source_name(&job.input))?;
-    Ok(form_report(alloc, job, items, gate)?)
+    let file = load_file(alloc, texts, name)?;
+    if !is_runnable(&file) {
+        return Err(Refusal::NotYet);
+    }
+    let loaded = load_texts(alloc, texts, &file)?;
+    let report = match run_file(alloc, &file, &loaded, gate) {
+        Ok(report) => report,
+        Err(fault) => return Err(Refusal::from(fault)),
+    };
+    let text = report_text(alloc, &file, &report)?;
+    let failed = report.has_failed();
+    let calls = report.into_calls(alloc)?;
+    Ok(Formed {
+        text,
+        failed,
+        calls,
+    })
 }
 
-/// Writes what a run formed.
-fn write_report<S: Sink>(out: &mut S, formed: Formed) -> Result<List<u32>, Refusal>
-    ensures calls { IfOk result (λ calls. calls ≡ formed.calls) }
-    ensures whole { OnOk result (Takes (S.got out.old) (S.got out.new) formed.text) }
-    ensures front { OnErr result ((count : ℕ) × (count < length formed.text) × Takes (S.got out.old) (S.got out.new) (take count formed.text)) }
-    ensures fault { OnErr result (Rose (S.faults out.old) (S.faults out.new)) }
-    ensures only { IfErr result (λ refusal. refusal ≡ Refusal.WriteFault) }
+/// Runs the job file under a name, and writes its report.
+fn run_named<T: Texts, S: Sink, E: Sink, G: Gate>(
+    alloc: Global,
+    name: &[u8],
+    texts: &mut T,
+    out: &mut S,
+    err: &mut E,
+    gate: &G,
+) -> Ended
+    ensures { RunEnds name.now (T.source texts.old) (T.source texts.new) (S.intake out.old) (S.intake out.new)
+        (E.intake err.old) (E.intake err.new) result.status result.calls }
 {
-    match write_all(out, formed.text.as_slice()) {
-        Ok(()) => Ok(formed.calls),
-        Err(_) => Err(Refusal::WriteFault),
+    match form_run(alloc, name, texts, gate) {
+        Ok(formed) => {
+            let done = if formed.failed { 1 } else { 0 };
+            Ended {
+                status: write_text(alloc, formed.text.as_slice(), done, out, err),
+                calls: formed.calls,
+            }
+        }
+        Err(refusal) => Ended::refused(alloc, refusal, err),
     }
 }
 
-/// Runs the job file that the words name, and writes its report.
-fn run_report<T: Texts, S: Sink, G: Gate>(
-    alloc: Global,
-    words: &[String],
-    texts: &mut T,
-    out: &mut S,
-    gate: &G,
-) -> Result<List<u32>, Refusal>
-    ensures finished { IfOk result (Finishes (form (map string_bytes words.now)) (T.held texts.old) (T.taken texts.old) (T.taken texts.new) (S.got out.old) (S.got out.new)) }
-    ensures stops { IfErr result (Stops (form (map string_bytes words.now)) (T.held texts.old) (T.taken texts.old) (T.taken texts.new) (S.got out.old) (S.got out.new)) }
-    ensures read_fault { result ≡ Err Refusal.ReadFault → Rose (T.faults texts.old) (T.faults texts.new) }
-    ensures blames { result ≡ Err Refusal.ReadFault → Blames (form (map string_bytes words.now)) (T.held texts.old) (T.blamed texts.new) }
-    ensures write_fault { result ≡ Err Refusal.WriteFault → Rose (S.faults out.old) (S.faults out.new) }
-{
-    let Some(name) = job_file(words) else {
-        return Err(Refusal::Usage);
-    };
-    let formed = form_run(alloc, name, texts, gate)?;
-    write_report(out, formed)
+impl Ended {
+    /// Tells a refusal.
+    fn refused<E: Sink>(alloc: Global, refusal: Refusal, err: &mut E) -> Ended
+        ensures told { IsRefused refusal result.status (E.intake err.old) (E.intake err.new) }
+        ensures calls { result.calls ≡ [] }
+    {
+        Ended {
+            status: refuse(alloc, refusal, err),
+            calls: List::new(alloc),
+        }
+    }
 }
 
-/// Runs the words after the program's name, which today are `run JOB`: reads the job file JOB and the text that
-/// its job names, and writes the report to `out`, or one line to `err` that says why not. Faults of `err` change
-/// nothing else.
+/// Runs the words after the program's name: `run JOB` runs a job file over the texts that it names and writes the
+/// report of each job to `out`, `run --workers N JOB` the same, and `check JOB` is `check_words`. Where not all was
+/// written, one line to `err` says why; faults of `err` change nothing else.
 pub fn run_words<T: Texts, S: Sink, E: Sink, G: Gate>(
     alloc: Global,
     words: &[String],
@@ -86,33 +108,18 @@ pub fn run_words<T: Texts, S: Sink, E: Sink, G: Gate>(
     err: &mut E,
     gate: &G,
 ) -> Ended
-    // What was written is the report of the sequential answer, and each index was called once.
-    ensures finished { result.status ≡ 0 → Finishes (form (map string_bytes words.now)) (T.held texts.old) (T.taken texts.old) (T.taken texts.new) (S.got out.old) (S.got out.new) result.calls }
-
-    // When each other status comes.
-    ensures usage { (result.status ≡ 2) ↔ (form (map string_bytes words.now) ≡ None) }
-    ensures bad_job { result.status ≡ 3 → RefusesJob (form (map string_bytes words.now)) (T.held texts.old) (T.taken texts.old) (T.taken texts.new) (E.got err.old) (E.got err.new) (E.faults err.old) (E.faults err.new) }
-    ensures read_fault { result.status ≡ 4 → Rose (T.faults texts.old) (T.faults texts.new) }
-    ensures blames { result.status ≡ 4 → Blames (form (map string_bytes words.now)) (T.held texts.old) (T.blamed texts.new) }
-    ensures write_fault { result.status ≡ 5 → Rose (S.faults out.old) (S.faults out.new) }
-    ensures cut { result.status ≡ 5 → Cuts (form (map string_bytes words.now)) (T.held texts.old) (T.taken texts.old) (T.taken texts.new) (S.got out.old) (S.got out.new) }
-    ensures too_large { result.status ≡ 7 → Passes (form (map string_bytes words.now)) (T.held texts.old) (T.taken texts.old) (T.taken texts.new) }
-    ensures only { IsStatus result.status }
-
-    // What can finish does, unless a count of faults rises or memory lacks.
-    ensures complete { CanFinish (form (map string_bytes words.now)) (T.held texts.old) → ¬ Rose (T.faults texts.old) (T.faults texts.new) → ¬ Rose (S.faults out.old) (S.faults out.new) → (result.status ≡ 0) ⊎ (result.status ≡ 6) }
-
-    // What the sinks got.
-    ensures untouched { result.status ≢ 0 → result.status ≢ 5 → Takes (S.got out.old) (S.got out.new) [] }
-    ensures quiet { result.status ≡ 0 → Takes (E.got err.old) (E.got err.new) [] }
-    ensures told { result.status ≢ 0 → result.status ≢ 3 → Hears (fixed_line result.status) (E.got err.old) (E.got err.new) (E.faults err.old) (E.faults err.new) }
+    ensures { IsCall (seen (map string_bytes words.now) (T.source texts.old) (T.source texts.new) (S.intake out.old)
+        (S.intake out.new) (E.intake err.old) (E.intake err.new) result.status) result.calls }
 {
-    match run_report(alloc, words, texts, out, gate) {
-        Ok(calls) => Ended { status: 0, calls },
-        Err(refusal) => Ended {
-            status: refusal.tell(alloc, err),
+    let Some(command) = command_of(words) else {
+        return Ended::refused(alloc, Refusal::Usage, err);
+    };
+    match command.task {
+        Task::Check => Ended {
+            status: check_named(alloc, command.job, texts, out, err),
             calls: List::new(alloc),
         },
+        Task::Run(_) => run_named(alloc, command.job, texts, out, err, gate),
     }
 }
 

@@ -1,20 +1,15 @@
 ghost use Rattle.std.specs.Prelude.{◌≢◌};
 
 use super::*;
-use qtc_base::{Bytes, NoMemory};
+use crate::check::check_words;
+use qtc_base::NoMemory;
 use qtc_outside::{MemSink, MemTexts, NoGate, SureSink, SureTexts};
 use std::alloc::AllocError;
 use std::test::Fail;
 
-/// The SHA-256 of `abc` and of the empty message, as FIPS 180-4 has them in its examples.
-const DIGESTS: &[u8] =
-    b"job a finished 2\nba7816bf8f01cfea414140de5dae2223b00361a396177a9cb410ff61f20015ad\ne3b0c44298fc1c149afbf4c8996fb92427ae41e4649b934ca495991b7852b855\n";
+const USAGE: &[u8] = b"qtc: usage: run [--workers N] JOB, check JOB, sample [--workers W] N\n";
 
 const SAME: &[u8] = b"job a\ninput lines t\nmap same\n";
-
-const DIGEST: &[u8] = b"job a\ninput lines t\nmap digest\n";
-
-const USAGE: &[u8] = b"qtc: usage: run [--workers N] JOB, check JOB, sample [--workers W] N\n";
 
 fn word_list(alloc: Global, words: &[&str]) -> Result<Vec<String>, AllocError> {
     let mut list = Vec::new(alloc);
@@ -37,16 +32,16 @@ fn push_text(
     texts.push(pair).map_err(|_| NoMemory)
 }
 
-/// The job file `j`, and the text `t` where there is one.
+/// The job file `j`, and these texts.
 fn texts_of(
     alloc: Global,
     file: &[u8],
-    text: Option<&[u8]>,
+    others: &[(&[u8], &[u8])],
 ) -> Result<List<(Bytes, Bytes)>, NoMemory> {
     let mut texts = List::new(alloc);
     push_text(alloc, &mut texts, b"j", file)?;
-    if let Some(text) = text {
-        push_text(alloc, &mut texts, b"t", text)?;
+    for (name, text) in others {
+        push_text(alloc, &mut texts, name, text)?;
     }
     Ok(texts)
 }
@@ -54,7 +49,7 @@ fn texts_of(
 struct Case {
     words: &'static [&'static str],
     file: &'static [u8],
-    text: Option<&'static [u8]>,
+    texts: &'static [(&'static [u8], &'static [u8])],
     status: u8,
     out: &'static [u8],
     err: &'static [u8],
@@ -62,43 +57,94 @@ struct Case {
 
 const RUN: &[&str] = &["run", "j"];
 
+const CHECK: &[&str] = &["check", "j"];
+
 const CASES: &[Case] = &[
     Case {
         words: RUN,
-        file: SAME,
-        text: Some(b"b\na\nc"),
+        file: b"job a\ninput lines t\nmap digest\n",
+        texts: &[(b"t", b"abc\n\n")],
         status: 0,
-        out: b"job a finished 3\nb\na\nc\n",
+        out: b"job a finished 2\nba7816bf8f01cfea414140de5dae2223b00361a396177a9cb410ff61f20015ad\ne3b0c44298fc1c149afbf4c8996fb92427ae41e4649b934ca495991b7852b855\n",
+        err: b"",
+    },
+    Case {
+        words: &["run", "--workers", "32", "j"],
+        file: b"job a\ninput lines t\nmap same\nblocks 65536\n",
+        texts: &[(b"t", b"a\nb\nc\nd\ne\n")],
+        status: 0,
+        out: b"job a finished 5\na\nb\nc\nd\ne\n",
         err: b"",
     },
     Case {
         words: RUN,
-        file: SAME,
-        text: Some(b""),
+        file: b"job a\ninput lines t\nfilter contains x\nblocks 3\n",
+        texts: &[(b"t", b"a\na\na\na\na\na\na\n")],
         status: 0,
         out: b"job a finished 0\n",
         err: b"",
     },
     Case {
         words: RUN,
-        file: SAME,
-        text: Some(b"a\tb\\\n"),
+        file: b"job a\ninput lines t\nfilter not contains a\n",
+        texts: &[(b"t", b"a\nb\nab\nc")],
         status: 0,
-        out: b"job a finished 1\na\\x09b\\x5c\n",
+        out: b"job a finished 2\nb\nc\n",
         err: b"",
     },
     Case {
         words: RUN,
-        file: DIGEST,
-        text: Some(b"abc\n\n"),
+        file: b"job a\ninput lines t\nmap number\n",
+        texts: &[(b"t", b"1\nx")],
+        status: 1,
+        out: b"job a failed 1 x\n",
+        err: b"",
+    },
+    Case {
+        words: RUN,
+        file: b"job a\ninput pieces 3 t\nmap length\n",
+        texts: &[(b"t", b"abcdefg")],
         status: 0,
-        out: DIGESTS,
+        out: b"job a finished 3\n3\n3\n1\n",
+        err: b"",
+    },
+    Case {
+        words: RUN,
+        file: b"",
+        texts: &[],
+        status: 0,
+        out: b"",
+        err: b"",
+    },
+    // Several jobs over texts of escaped names, one of them in two jobs, and a failure in the middle.
+    Case {
+        words: RUN,
+        file: b"job a\ninput lines a\\x20b\nmap same\njob b\ninput lines a\\x20b\nmap number\njob c\ninput files t a\\x20b\nmap length\n",
+        texts: &[(b"a b", b"\xff\\\n7\n"), (b"t", b"12345")],
+        status: 1,
+        out: b"job a finished 2\n\xff\\x5c\n7\njob b failed 0 \xff\\x5c\njob c finished 2\n5\n5\n",
+        err: b"",
+    },
+    Case {
+        words: CHECK,
+        file: SAME,
+        texts: &[],
+        status: 0,
+        out: b"workers 4\njob a\ninput lines t\nmap same\nblocks 16\npriority 0\n",
+        err: b"",
+    },
+    Case {
+        words: CHECK,
+        file: b"",
+        texts: &[],
+        status: 0,
+        out: b"workers 4\n",
         err: b"",
     },
     Case {
         words: &[],
         file: SAME,
-        text: Some(b""),
+        texts: &[],
         status: 2,
         out: b"",
         err: USAGE,
@@ -106,7 +152,7 @@ const CASES: &[Case] = &[
     Case {
         words: &["run"],
         file: SAME,
-        text: Some(b""),
+        texts: &[],
         status: 2,
         out: b"",
         err: USAGE,
@@ -114,7 +160,7 @@ const CASES: &[Case] = &[
     Case {
         words: &["run", "a", "b"],
         file: SAME,
-        text: Some(b""),
+        texts: &[],
         status: 2,
         out: b"",
         err: USAGE,
@@ -122,15 +168,31 @@ const CASES: &[Case] = &[
     Case {
         words: &["run", "--workers", "0", "j"],
         file: SAME,
-        text: Some(b""),
+        texts: &[],
         status: 2,
         out: b"",
         err: USAGE,
     },
     Case {
-        words: &["check", "j"],
+        words: &["run", "--workers", "33", "j"],
         file: SAME,
-        text: Some(b""),
+        texts: &[],
+        status: 2,
+        out: b"",
+        err: USAGE,
+    },
+    Case {
+        words: &["run", "--workers", "4"],
+        file: SAME,
+        texts: &[],
+        status: 2,
+        out: b"",
+        err: USAGE,
+    },
+    Case {
+        words: &["sample", "0"],
+        file: SAME,
+        texts: &[],
         status: 2,
         out: b"",
         err: USAGE,
@@ -138,42 +200,44 @@ const CASES: &[Case] = &[
     Case {
         words: RUN,
         file: b"job a\nfoo\ninput lines t\nmap same\n",
-        text: Some(b""),
+        texts: &[(b"t", b"")],
         status: 3,
         out: b"",
         err: b"qtc: bad job file: line 2 code 1\n",
     },
     Case {
-        words: RUN,
-        file: b"",
-        text: Some(b""),
-        status: 3,
-        out: b"",
-        err: b"qtc: bad job file: line 1 code 1\n",
-    },
-    Case {
-        words: RUN,
+        words: CHECK,
         file: b"job a\n",
-        text: Some(b""),
+        texts: &[],
         status: 3,
         out: b"",
-        err: b"qtc: bad job file: line 2 code 1\n",
+        err: b"qtc: bad job file: line 1 code 8\n",
     },
     Case {
         words: RUN,
         file: SAME,
-        text: None,
+        texts: &[],
         status: 4,
         out: b"",
         err: b"qtc: read fault\n",
     },
+    // A job file may have any name.
     Case {
         words: &["run", "--workers"],
         file: SAME,
-        text: None,
+        texts: &[],
         status: 4,
         out: b"",
         err: b"qtc: read fault\n",
+    },
+    // What isn't run so far is said before a text is asked for.
+    Case {
+        words: RUN,
+        file: b"job a\ninput lines t\nmap same\nreduce count\n",
+        texts: &[],
+        status: 8,
+        out: b"",
+        err: b"qtc: not yet\n",
     },
 ];
 
@@ -182,7 +246,7 @@ fn words_and_job_files_end_as_they_should(rt: HostRuntime) -> Result<(), Fail> {
     let alloc = rt.alloc();
     for case in CASES {
         let words = word_list(alloc, case.words)?;
-        let texts = texts_of(alloc, case.file, case.text)?;
+        let texts = texts_of(alloc, case.file, case.texts)?;
         let mut texts = MemTexts::new(texts, 7, List::new(alloc));
         let mut out = MemSink::new(alloc, 5, List::new(alloc));
         let mut err = MemSink::new(alloc, 5, List::new(alloc));
@@ -190,6 +254,23 @@ fn words_and_job_files_end_as_they_should(rt: HostRuntime) -> Result<(), Fail> {
         assert_eq!(rt; ended.status, case.status);
         assert_eq!(rt; out.text(), case.out);
         assert_eq!(rt; err.text(), case.err);
+    }
+    Ok(())
+}
+
+#[test]
+fn a_check_takes_no_other_words(rt: HostRuntime) -> Result<(), Fail> {
+    let alloc = rt.alloc();
+    for (words, status, text) in [(CHECK, 0, b"".as_slice()), (RUN, 2, USAGE)] {
+        let words = word_list(alloc, words)?;
+        let mut texts = MemTexts::new(texts_of(alloc, SAME, &[])?, 7, List::new(alloc));
+        let mut out = MemSink::new(alloc, 100, List::new(alloc));
+        let mut err = MemSink::new(alloc, 100, List::new(alloc));
+        assert_eq!(rt;
+            check_words(alloc, &words, &mut texts, &mut out, &mut err),
+            status
+        );
+        assert_eq!(rt; err.text(), text);
     }
     Ok(())
 }
@@ -208,15 +289,17 @@ fn run_surely(
 }
 
 #[test]
-fn each_index_is_called_once(rt: HostRuntime) -> Result<(), Fail> {
+fn the_calls_of_all_jobs_stand_in_order(rt: HostRuntime) -> Result<(), Fail> {
     let alloc = rt.alloc();
     let words = word_list(alloc, RUN)?;
-    let mut texts = SureTexts::new(texts_of(alloc, DIGEST, Some(b"abc\n\n"))?);
+    let file = b"job a\ninput lines t\nmap digest\njob b\ninput pieces 2 t\nmap number\n";
+    let texts = texts_of(alloc, file.as_slice(), &[(b"t".as_slice(), b"12\nx\n")])?;
+    let mut texts = SureTexts::new(texts);
     let mut out = SureSink::new(alloc, 1000)?;
     let mut err = SureSink::new(alloc, 0)?;
     let ended = run_surely(alloc, &words, &mut texts, &mut out, &mut err);
-    assert_eq!(rt; ended.status, 0);
-    assert_eq!(rt; ended.calls.as_slice(), [0, 1].as_slice());
+    assert_eq!(rt; ended.status, 1);
+    assert_eq!(rt; ended.calls.as_slice(), [0, 1, 0, 1].as_slice());
     Ok(())
 }
 
@@ -224,7 +307,7 @@ fn each_index_is_called_once(rt: HostRuntime) -> Result<(), Fail> {
 fn a_fault_of_the_sink_leaves_a_front(rt: HostRuntime) -> Result<(), Fail> {
     let alloc = rt.alloc();
     let words = word_list(alloc, RUN)?;
-    let texts = texts_of(alloc, SAME, Some(b""))?;
+    let texts = texts_of(alloc, SAME, &[(b"t", b"x")])?;
     let mut texts = MemTexts::new(texts, 7, List::new(alloc));
     let mut fails = List::new(alloc);
     assert_eq!(rt; fails.push(1), Ok(()));
@@ -232,6 +315,7 @@ fn a_fault_of_the_sink_leaves_a_front(rt: HostRuntime) -> Result<(), Fail> {
     let mut err = MemSink::new(alloc, 100, List::new(alloc));
     let ended = run_words(alloc, &words, &mut texts, &mut out, &mut err, &NoGate);
     assert_eq!(rt; ended.status, 5);
+    assert_eq!(rt; ended.calls.as_slice(), [0].as_slice());
     assert_eq!(rt; out.text(), b"job ".as_slice());
     assert_eq!(rt; err.text(), b"qtc: write fault\n".as_slice());
     Ok(())
@@ -254,14 +338,20 @@ fn faults_of_the_error_sink_change_nothing(rt: HostRuntime) -> Result<(), Fail> 
 }
 
 /// A text of one byte, over and over.
-fn filled(alloc: Global, byte: u8, count: usize) -> Result<Vec<u8>, AllocError> {
-    vec![in alloc; byte; count]
+fn filled(alloc: Global, byte: u8, count: usize) -> Result<Bytes, NoMemory> {
+    let block = [byte; 4096];
+    let mut text = Bytes::with_capacity(alloc, count)?;
+    for _ in 0..count / 4096 {
+        text.append(&block)?;
+    }
+    text.append(&block[..count % 4096])?;
+    Ok(text)
 }
 
-/// How a run over this job file and text ends; 0 where it says what it should not.
-fn status_of_run(alloc: Global, file: &[u8], text: &[u8]) -> Result<u8, Fail> {
+/// How a run over this job file and these texts ends; 0 where it says what it should not.
+fn status_of_run(alloc: Global, file: &[u8], others: &[(&[u8], &[u8])]) -> Result<u8, Fail> {
     let words = word_list(alloc, RUN)?;
-    let texts = texts_of(alloc, file, Some(text))?;
+    let texts = texts_of(alloc, file, others)?;
     let mut texts = MemTexts::new(texts, usize::MAX, List::new(alloc));
     let mut out = MemSink::new(alloc, usize::MAX, List::new(alloc));
     let mut err = MemSink::new(alloc, 100, List::new(alloc));
@@ -275,24 +365,47 @@ fn status_of_run(alloc: Global, file: &[u8], text: &[u8]) -> Result<u8, Fail> {
 }
 
 #[test]
-fn limits_are_kept(rt: HostRuntime) -> Result<(), Fail> {
+fn the_limits_of_a_job_file_and_a_text_are_kept(rt: HostRuntime) -> Result<(), Fail> {
     let alloc = rt.alloc();
-    for (count, status) in [(1_048_576, 3), (1_048_577, 7)] {
-        let file = filled(alloc, b'#', count)?;
-        assert_eq!(rt; status_of_run(alloc, file.as_slice(), b"")?, status);
+    for (count, status) in [(1_048_576, 0), (1_048_577, 7)] {
+        let file = filled(alloc, b'\n', count)?;
+        assert_eq!(rt; status_of_run(alloc, file.as_slice(), &[])?, status);
     }
-    for (byte, count, status) in [
-        (b'x', 67_108_864, 0),
-        (b'x', 67_108_865, 7),
-        (b'\n', 8_388_608, 0),
-        (b'\n', 8_388_609, 7),
-    ] {
-        let text = filled(alloc, byte, count)?;
-        assert_eq!(rt;
-            status_of_run(alloc, SAME, text.as_slice())?,
-            status,
-            "{count} of {byte}"
-        );
+    for (count, status) in [(67_108_864, 0), (67_108_865, 7)] {
+        let text = filled(alloc, b'x', count)?;
+        let texts = [(b"t".as_slice(), text.as_slice())];
+        assert_eq!(rt; status_of_run(alloc, SAME, &texts)?, status);
+    }
+    Ok(())
+}
+
+#[test]
+fn the_limit_of_all_texts_is_kept(rt: HostRuntime) -> Result<(), Fail> {
+    let alloc = rt.alloc();
+    let text = filled(alloc, b'x', 67_108_864)?;
+    let text = text.as_slice();
+    for (last, status) in [(b"".as_slice(), 0), (b"y", 7)] {
+        let texts = [
+            (b"a".as_slice(), text),
+            (b"b", text),
+            (b"c", text),
+            (b"d", text),
+            (b"e", last),
+        ];
+        let file = b"job a\ninput files a b c d e\nmap length\n";
+        assert_eq!(rt; status_of_run(alloc, file.as_slice(), &texts)?, status);
+    }
+    Ok(())
+}
+
+#[test]
+fn a_text_of_two_jobs_counts_twice(rt: HostRuntime) -> Result<(), Fail> {
+    let alloc = rt.alloc();
+    let file = b"job a\ninput lines t\nfilter longer 0\njob b\ninput lines t\nfilter longer 0\n";
+    for (count, status) in [(4_194_304, 0), (4_194_305, 7)] {
+        let text = filled(alloc, b'\n', count)?;
+        let texts = [(b"t".as_slice(), text.as_slice())];
+        assert_eq!(rt; status_of_run(alloc, file.as_slice(), &texts)?, status);
     }
     Ok(())
 }

@@ -1,6 +1,7 @@
-use Rattle.qtc_cli.proofs.RunLemmas.{forms}
+use Rattle.std.proofs.Common.{sym, ◌∙◌}
+use Rattle.qtc_cli.proofs.Runs.{run-stops}
 use Rattle.qtc_cli.proofs.run.form_run.Goals as goal
 
-pub returns-clause-formed : goal.returns-clause-formed
-returns-clause-formed g c =
-    forms (g.T.Texts.held c.args.texts.now) (g.T.Texts.held c.load_job.new.texts) c.args.name.now _ _ _ c.in_ok-job.job c.source_name.result.now c.in_ok-items.items _ _ c.in_ok-job.ensures.loads c.in_ok-job.ensures.holds c.source_name.ensures c.in_ok-items.ensures.loads c.in_ok-form_report.ensures.text c.in_ok-form_report.ensures.calls
+pub returns-in-Err-clause-err : goal.returns-in-Err-clause-err
+returns-in-Err-clause-err g c =
+    rw c.from.ensures (run-stops c.args.name.now _ _ _ c.in_ok-file.file c.in_ok-loaded.loaded c.in-Err.fault c.in_ok-file.ensures.ok (sym c.is_runnable.ensures ∙ c.if-not-is_runnable.false) c.in_ok-loaded.ensures.ok c.in-Err.ensures.too_large)

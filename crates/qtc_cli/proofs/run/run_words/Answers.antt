@@ -1,14 +1,17 @@
-use Rattle.std.proofs.Common.{ap, Err, inr}
-use Rattle.qtc_cli.proofs.RunLemmas.{usage, stops-none, told-memory}
+use Rattle.std.proofs.Common.{ap, ◌∙◌, Some, refl}
+use Rattle.std.specs.Prelude.{map, string_bytes}
+use Rattle.qtc_cli.specs.Commands.{form_said}
+use Rattle.qtc_cli.proofs.Runs.{run-call-of, check-is-call, usage-call-of}
 use Rattle.qtc_cli.proofs.run.run_words.Goals as goal
 
-pub returns-in-Err-clause-usage : goal.returns-in-Err-clause-usage
-returns-in-Err-clause-usage g c = usage _ _ _ _ _ _ _ _ _ _ _ _ c.in-Err.ensures.stops c.tell.ensures
+pub returns-in_default : goal.returns-in_default
+returns-in_default g c =
+    usage-call-of (map string_bytes c.args.words.now) (g.T.Texts.source c.args.texts.now) _ (g.S.Sink.intake c.args.out.now) _ _ _ _ _ c.in_default.ensures c.refused.ensures.told refl refl c.refused.ensures.calls
 
-pub returns-in-Err-clause-complete : goal.returns-in-Err-clause-complete
-returns-in-Err-clause-complete g c can no_read no_write =
-    let memory =
-    stops-none _ _ _ _ _ _ c.in-Err.refusal can c.in-Err.ensures.stops
-    (λ is. no_read (c.in-Err.ensures.read_fault (ap Err is)))
-    (λ is. no_write (c.in-Err.ensures.write_fault (ap Err is))) in
-    inr (told-memory _ _ _ _ _ _ memory c.tell.ensures)
+pub returns-in-Check : goal.returns-in-Check
+returns-in-Check g c =
+    check-is-call (map string_bytes c.args.words.now) _ _ _ _ _ _ _ _ _ (c.in-Some.ensures ∙ ap (λ t. Some (form_said t c.in-Some.command.job.now)) c.in-Check.is) c.check_named.ensures c.new.ensures
+
+pub returns-in-Run : goal.returns-in-Run
+returns-in-Run g c =
+    run-call-of (map string_bytes c.args.words.now) _ _ _ _ _ _ _ _ _ _ (c.in-Some.ensures ∙ ap (λ t. Some (form_said t c.in-Some.command.job.now)) c.in-Run.is) c.run_named.ensures

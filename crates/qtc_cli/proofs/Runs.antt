@@ -1,0 +1,394 @@
+-- A call of the form run.
+use Rattle.std.proofs.Common.{◌≡◌, ◌≢◌, ℕ, ◌+◌, ◌-◌, ◌<◌, ◌≤◌, List, [], ◌∷◌, ◌++◌, min, take, drop, Bool, true, false, cond, Option, Some, None, length, refl, sym, ap, ◌∙◌, inl, inr, arith, ⊎_elim}
+use Rattle.std.specs.Prelude.{◌⊎◌, ◌↔◌, All, IfSome, IsTrue, map}
+use Rattle.std.proofs.lemmas.Bool.{cases_Bool, true≢false}
+use Rattle.std.proofs.lemmas.Grind.{common_steps, flat_map-append}
+use Rattle.std.proofs.lemmas.List.{take-append-drop, length-append}
+use Rattle.std.proofs.lemmas.List.Elements.{All-head, All-tail}
+use Rattle.std.proofs.lemmas.List.Sums.{sum_by-append}
+use Rattle.qtc_base.specs.Items.{PassesLimit}
+use Rattle.qtc_outside.specs.Source.{Source, IsCalm}
+use Rattle.qtc_outside.specs.Intake.{Intake}
+use Rattle.qtc_outside.specs.Loading.{Loads, FailsToLoad, IsTooLong}
+use Rattle.qtc_outside.specs.declared.loading.LoadFault.TheVariants.{Read, TooLong}
+use Rattle.qtc_job.specs.declared.jobs.BadJob.{BadJob}
+use Rattle.qtc_job.specs.declared.jobs.JobFile.{JobFile}
+use Rattle.qtc_job.specs.Grammar.{Reads}
+use Rattle.qtc_job.specs.Limits.{most_text as most_job_file}
+use Rattle.qtc_job.specs.Lines.{lines_of}
+use Rattle.qtc_job.specs.declared.jobs.Job.{Job}
+use Rattle.qtc_run.specs.Loaded.{most_text}
+use Rattle.qtc_run.specs.Reports.{reported, has_failed}
+use Rattle.qtc_run.specs.Runnable.{are_runnable}
+use Rattle.qtc_run.specs.Sources.{Texts, items_of, items_of_all}
+use Rattle.qtc_run.specs.Sums.{items_up_to, RefusesRun as JobsStop}
+use Rattle.qtc_run.specs.declared.reports.RunFault.{RunFault}
+use Rattle.qtc_run.specs.declared.reports.RunFault.TheVariants.{TooLarge as ItemsTooLarge, Memory as RunMemory}
+use Rattle.qtc_cli.specs.Answered.{IsDone, KeepsOutside, IsBadJob, HasNoFaults}
+use Rattle.qtc_cli.specs.Check.{IsCheck, CheckEnds}
+use Rattle.qtc_cli.specs.Endings.{IsRefused, Writes, WritesAll, WritesFront}
+use Rattle.qtc_cli.specs.Forms.{Form, form, run, check}
+use Rattle.qtc_cli.specs.Loads.{most_texts, LoadsFile, LoadsBad, LoadsTexts, StopsAt, texts_named, name_of, bytes_of, room_after}
+use Rattle.qtc_cli.specs.Refusals.{run_refusal, status_of, line_of, Hears, SaysFor}
+use Rattle.qtc_cli.specs.Run.{RunsFile, Ran, IsRun, IsRunCut, IsTextRefused, IsReadFault, HasManyItems, IsTooLarge, IsNotYet, CanRun, RunsAsSaid, IsCall, RunStops, Forms, done_status, WritesRun, RefusesRun, RunEnds}
+use Rattle.qtc_cli.specs.Seen.{Seen, seen}
+use Rattle.qtc_cli.specs.declared.refusals.Refusal.{Refusal}
+use Rattle.qtc_cli.specs.declared.refusals.Refusal.TheVariants.{Usage, Bad, ReadFault, WriteFault, Memory, TooLarge, NotYet}
+use Rattle.qtc_cli.proofs.Checks.{not-bad, file-same, not-too-long, check-call-of, usage-said}
+use Rattle.qtc_cli.proofs.Ends.{two-at-least, eight-at-most, not-done, keeps-refused, keeps-done, keeps-cut}
+use Rattle.qtc_cli.proofs.Texts.{calm-same, calm-then}
+
+-- ---- texts that are held are those that are loaded
+
+abbrev AreHeld : Source → Texts → Type 0
+AreHeld source texts = All (λ t. source.held t.0 ≡ Some t.1) texts
+
+abbrev AreTold : Source → Texts → Type 0
+AreTold source texts = All (λ t. IfSome (source.held t.0) (λ held. t.1 ≡ held)) texts
+
+told-is : (source : Source) (name text held : List ℕ) → source.held name ≡ Some held → IfSome (source.held name) (λ h. text ≡ h) → text ≡ held
+told-is source name text held e t = rw e at t
+
+pair-same : (a b : List ℕ × List ℕ) → a.0 ≡ b.0 → a.1 ≡ b.1 → a ≡ b
+pair-same (a, x) (b, y) p q = ap (λ k. (k, x)) p ∙ ap (λ v. (b, v)) q
+
+-- texts with the names of those that are held are these
+pub texts-same : (source : Source) (loaded held : Texts) → map name_of loaded ≡ map name_of held → AreTold source loaded → AreHeld source held → loaded ≡ held
+texts-same source [] [] e told are = refl
+texts-same source [] (h ∷ held) e told are = absurd cc
+texts-same source (l ∷ loaded) [] e told are = absurd cc
+texts-same source (l ∷ loaded) (h ∷ held) e told are =
+    let first : l.0 ≡ h.0 = cc in
+    let others : map name_of loaded ≡ map name_of held = cc in
+    let here = All-head (λ t. source.held t.0 ≡ Some t.1) h held are in
+    let text = told-is source h.0 l.1 h.1 here (rw first at (All-head (λ t. IfSome (source.held t.0) (λ held. t.1 ≡ held)) l loaded told)) in
+    let rest = texts-same source loaded held others (All-tail (λ t. IfSome (source.held t.0) (λ held. t.1 ≡ held)) l loaded told) (All-tail (λ t. source.held t.0 ≡ Some t.1) h held are) in
+    ap (λ p. p ∷ loaded) (pair-same l h first text) ∙ ap (λ s. h ∷ s) rest
+
+-- the texts before a name are a front of those that are held, and the one under it comes next
+record IsFront (source : Source) (before held : Texts) (name : List ℕ) : Type 0 where
+  text : List ℕ
+  rest : Texts
+  are : held ≡ before ++ (name, text) ∷ rest
+  is_held : source.held name ≡ Some text
+
+front-of : (source : Source) (before held : Texts) (name : List ℕ) (after : List (List ℕ)) → map name_of held ≡ map name_of before ++ name ∷ after → AreTold source before → AreHeld source held → IsFront source before held name
+front-of source [] [] name after e told are = absurd cc
+front-of source [] (h ∷ held) name after e told are =
+    let first : h.0 ≡ name = cc in
+    let here = All-head (λ t. source.held t.0 ≡ Some t.1) h held are in
+    record { text = h.1; rest = held; are = ap (λ p. p ∷ held) (pair-same h (name, h.1) first refl); is_held = rw first at here }
+front-of source (b ∷ before) [] name after e told are = absurd cc
+front-of source (b ∷ before) (h ∷ held) name after e told are =
+    let first : h.0 ≡ b.0 = cc in
+    let others : map name_of held ≡ map name_of before ++ name ∷ after = cc in
+    let here = All-head (λ t. source.held t.0 ≡ Some t.1) h held are in
+    let there = All-head (λ t. IfSome (source.held t.0) (λ held. t.1 ≡ held)) b before told in
+    let text : b.1 ≡ h.1 = told-is source h.0 b.1 h.1 here (rw (sym first) at there) in
+    let more = front-of source before held name after others (All-tail (λ t. IfSome (source.held t.0) (λ held. t.1 ≡ held)) b before told) (All-tail (λ t. source.held t.0 ≡ Some t.1) h held are) in
+    record {
+      text = more.text;
+      rest = more.rest;
+      are = ap (λ p. p ∷ held) (pair-same h b first (sym text)) ∙ ap (λ s. b ∷ s) more.are;
+      is_held = more.is_held;
+    }
+
+-- ---- each status of a refusal, where it was told
+
+run-bad : (name : List ℕ) (call : Seen) (said : Refusal) → RunStops name call.texts said call.texts_after → call.status ≡ status_of said → Hears (line_of said) call.err call.err_after → call.status ≡ 3 → IsBadJob name call
+run-bad name call Usage stops is hears three = absurd stops
+run-bad name call (Bad bad) stops is hears three = record { bad = bad; loads = stops; hears = hears }
+run-bad name call ReadFault stops is hears three = absurd (omega arith)
+run-bad name call WriteFault stops is hears three = absurd stops
+run-bad name call Memory stops is hears three = absurd (omega arith)
+run-bad name call TooLarge stops is hears three = absurd (omega arith)
+run-bad name call NotYet stops is hears three = absurd (omega arith)
+
+run-fault : (name : List ℕ) (call : Seen) (said : Refusal) → RunStops name call.texts said call.texts_after → call.status ≡ status_of said → call.status ≡ 4 → IsReadFault name call.texts call.texts_after
+run-fault name call Usage stops is four = absurd stops
+run-fault name call (Bad bad) stops is four = absurd (omega arith)
+run-fault name call ReadFault stops is four = stops
+run-fault name call WriteFault stops is four = absurd stops
+run-fault name call Memory stops is four = absurd (omega arith)
+run-fault name call TooLarge stops is four = absurd (omega arith)
+run-fault name call NotYet stops is four = absurd (omega arith)
+
+run-large : (name : List ℕ) (call : Seen) (said : Refusal) → RunStops name call.texts said call.texts_after → call.status ≡ status_of said → call.status ≡ 7 → IsTooLarge name call.texts call.texts_after
+run-large name call Usage stops is seven = absurd stops
+run-large name call (Bad bad) stops is seven = absurd (omega arith)
+run-large name call ReadFault stops is seven = absurd (omega arith)
+run-large name call WriteFault stops is seven = absurd stops
+run-large name call Memory stops is seven = absurd (omega arith)
+run-large name call TooLarge stops is seven = stops
+run-large name call NotYet stops is seven = absurd (omega arith)
+
+run-unready : (name : List ℕ) (call : Seen) (said : Refusal) → RunStops name call.texts said call.texts_after → call.status ≡ status_of said → call.status ≡ 8 → IsNotYet name call.texts call.texts_after
+run-unready name call Usage stops is eight = absurd stops
+run-unready name call (Bad bad) stops is eight = absurd (omega arith)
+run-unready name call ReadFault stops is eight = absurd (omega arith)
+run-unready name call WriteFault stops is eight = absurd stops
+run-unready name call Memory stops is eight = absurd (omega arith)
+run-unready name call TooLarge stops is eight = absurd (omega arith)
+run-unready name call NotYet stops is eight = stops
+
+run-never : (name : List ℕ) (old new : Source) (said : Refusal) → RunStops name old said new → (status_of said ≢ 2) × (status_of said ≢ 5)
+run-never name old new Usage stops = absurd stops
+run-never name old new (Bad bad) stops = (λ e. omega arith, λ e. omega arith)
+run-never name old new ReadFault stops = (λ e. omega arith, λ e. omega arith)
+run-never name old new WriteFault stops = absurd stops
+run-never name old new Memory stops = (λ e. omega arith, λ e. omega arith)
+run-never name old new TooLarge stops = (λ e. omega arith, λ e. omega arith)
+run-never name old new NotYet stops = (λ e. omega arith, λ e. omega arith)
+
+large-calm : (name : List ℕ) (old new : Source) → IsTooLarge name old new → IsCalm old new
+large-calm name old new large =
+    elim large [
+      | inl file ↦ file.calm
+      | inr other ↦ elim other [
+        | inl text ↦ calm-then old text.between new text.file_loads.loads.calm (calm-then text.between text.stops.between new text.stops.loads.calm text.stops.stops.calm)
+        | inr items ↦ calm-then old items.between new items.file_loads.loads.calm items.texts_load.calm
+      ]
+    ]
+
+run-calm : (name : List ℕ) (old new : Source) (said : Refusal) → RunStops name old said new → status_of said ≢ 4 → IsCalm old new
+run-calm name old new Usage stops away = absurd stops
+run-calm name old new (Bad bad) stops away = stops.loads.calm
+run-calm name old new ReadFault stops away = absurd (away refl)
+run-calm name old new WriteFault stops away = absurd stops
+run-calm name old new Memory stops away = stops
+run-calm name old new TooLarge stops away = large-calm name old new stops
+run-calm name old new NotYet stops away = stops.file_loads.loads.calm
+
+-- want of memory may stand in the place of a bad job file
+run-said : (name : List ℕ) (old new : Source) (refusal said : Refusal) → RunStops name old refusal new → SaysFor refusal said → RunStops name old said new
+run-said name old new refusal said stops for =
+    elim for [
+      | inl same ↦ rw same stops
+      | inr other ↦ rw other.0 (let l = rw other.1.1 at stops in l.loads.calm)
+    ]
+
+-- ---- what can be run is refused for want of memory alone
+
+run-name : (words : List (List ℕ)) (a b : List ℕ) (w v : Option ℕ) → form words ≡ Some (run w a) → form words ≡ Some (run v b) → a ≡ b
+run-name words a b w v p q = cc
+
+pub fault-rose : (call : Seen) (name : List ℕ) → IsReadFault name call.texts call.texts_after → HasNoFaults call → ⊥
+fault-rose call name fault none =
+    elim fault [
+      | inl file ↦ none.texts file.rose
+      | inr text ↦
+          let calm = calm-then call.texts text.between text.stops.between text.file_loads.loads.calm text.stops.loads.calm in
+          none.texts (rw calm.faults at text.stops.stops.rose)
+    ]
+
+-- what stands between others
+middle : {X : Type 0} (P : X → Type 0) (xs : List X) (y : X) (ys : List X) → All P (xs ++ y ∷ ys) → P y
+middle P [] y ys all = All-head P y ys all
+middle P (x ∷ xs) y ys all = middle P xs y ys (All-tail P x (xs ++ y ∷ ys) all)
+
+no-room : (most whole before text rest all : ℕ) → all ≡ before + (text + rest) → text ≤ most → all ≤ whole → min most (whole - before) < text → ⊥
+no-room most whole before text rest all is short few long = omega arith
+
+ready-text : (call : Seen) (can : CanRun call) (text : IsTextRefused TooLong can.name call.texts call.texts_after) → ⊥
+ready-text call can text =
+    let same = file-same call.texts text.between can.name can.text can.file text.file can.held can.reads text.file_loads in
+    let stops = text.stops in
+    let calm = text.file_loads.loads.calm in
+    let named : map name_of can.texts ≡ map name_of stops.texts ++ text.text ∷ stops.after =
+    can.under ∙ (ap texts_named (sym same) ∙ (stops.names_are ∙ ap (λ s. s ++ text.text ∷ stops.after) (sym stops.loads.under))) in
+    let front = front-of call.texts stops.texts can.texts text.text stops.after named (rw calm.held at stops.loads.told) can.told in
+    let held : stops.between.held text.text ≡ Some front.text = ap (λ h. h text.text) (stops.loads.calm.held ∙ calm.held) ∙ front.is_held in
+    let long = rw held at stops.stops.told in
+    let sum : bytes_of can.texts ≡ bytes_of stops.texts + bytes_of ((text.text, front.text) ∷ front.rest) = ap bytes_of front.are ∙ sum_by-append (λ t. length t.1) stops.texts ((text.text, front.text) ∷ front.rest) in
+    let few = can.few in
+    let short : length front.text ≤ most_text = middle (λ t. length t.1 ≤ most_text) stops.texts (text.text, front.text) front.rest (rw front.are at can.each) in
+    let next : bytes_of ((text.text, front.text) ∷ front.rest) ≡ length front.text + bytes_of front.rest = sum_by-append (λ t. length t.1) ((text.text, front.text) ∷ []) front.rest ∙ grind (arith, common_steps) in
+    no-room most_text most_texts (bytes_of stops.texts) (length front.text) (bytes_of front.rest) (bytes_of can.texts) (sum ∙ ap (λ n. bytes_of stops.texts + n) next) short few long
+
+ready-items : (call : Seen) (can : CanRun call) (items : HasManyItems can.name call.texts call.texts_after) → ⊥
+ready-items call can items =
+    let same = file-same call.texts items.between can.name can.text can.file items.file can.held can.reads items.file_loads in
+    let calm = items.file_loads.loads.calm in
+    let texts = texts-same call.texts items.texts can.texts (items.texts_load.under ∙ (ap texts_named same ∙ sym can.under)) (rw calm.held at items.texts_load.told) can.told in
+    can.fits (rw (same, texts) at items.passes)
+
+run-complete : (call : Seen) (can : CanRun call) (said : Refusal) → RunStops can.name call.texts said call.texts_after → HasNoFaults call → status_of said ≡ 6
+run-complete call can Usage stops none = absurd stops
+run-complete call can (Bad bad) stops none = absurd (not-bad call.texts call.texts_after can.name can.text bad can.file can.held can.reads stops)
+run-complete call can ReadFault stops none = absurd (fault-rose call can.name stops none)
+run-complete call can WriteFault stops none = absurd stops
+run-complete call can Memory stops none = refl
+run-complete call can TooLarge stops none =
+    elim stops [
+      | inl file ↦ absurd (not-too-long most_job_file call.texts call.texts_after can.name can.text can.held can.short file)
+      | inr other ↦ elim other [
+        | inl text ↦ absurd (ready-text call can text)
+        | inr items ↦ absurd (ready-items call can items)
+      ]
+    ]
+run-complete call can NotYet stops none =
+    let same = file-same call.texts call.texts_after can.name can.text can.file stops.file can.held can.reads stops.file_loads in
+    absurd (stops.unready (rw (sym same) at can.runnable))
+
+-- ---- whole calls
+
+ran-calm : (name : List ℕ) (old new : Source) (file : JobFile) (texts : Texts) → Ran name old file texts new → IsCalm old new
+ran-calm name old new file texts ran = calm-then old ran.between new ran.file_loads.loads.calm ran.texts_load.calm
+
+run-refused : (call : Seen) (calls : List ℕ) (name : List ℕ) (said : Refusal) → RunsFile call name → RunStops name call.texts said call.texts_after → call.status ≡ status_of said → Hears (line_of said) call.err call.err_after → call.out_after ≡ call.out → calls ≡ [] → RunsAsSaid call calls
+run-refused call calls name said named stops is hears same nothing =
+    let never = run-never name call.texts call.texts_after said stops in
+    record {
+      finished = λ done. absurd (not-done call.status said is done);
+      usage = (λ two. absurd (never.0 (sym is ∙ two)), λ unnamed. absurd (let n = named.1 in cc));
+      bad_job = λ three. (name, named, run-bad name call said stops is hears three);
+      read_fault = λ four. (name, named, run-fault name call said stops is four);
+      write_fault = λ five. absurd (never.1 (sym is ∙ five));
+      too_large = λ seven. (name, named, run-large name call said stops is seven);
+      not_yet = λ eight. (name, named, run-unready name call said stops is eight);
+      only = let most = eight-at-most said in omega arith;
+      complete = λ can none.
+          let same_name = run-name call.words can.name name can.named.0 named.0 can.named.1 named.1 in
+          inr (is ∙ run-complete call can said (rw (sym same_name) at stops) none);
+      no_calls = λ _ _. nothing;
+      outside = keeps-refused call said is hears same (λ away. run-calm name call.texts call.texts_after said stops (λ four. away (is ∙ four)));
+    }
+
+one-where : (failed : Bool) (status : ℕ) → status ≡ done_status failed → (status ≡ 1) ↔ (failed ≡ true)
+one-where true status is = (λ _. refl, λ _. is)
+one-where false status is = (λ one. absurd (omega arith), λ e. absurd (true≢false (sym e)))
+
+is-done : (failed : Bool) (status : ℕ) → status ≡ done_status failed → IsDone status
+is-done true status is = inr is
+is-done false status is = inl is
+
+done-low : (status : ℕ) → IsDone status → status ≤ 1
+done-low status done =
+    elim done [
+      | inl zero ↦ omega arith
+      | inr one ↦ omega arith
+    ]
+
+run-written : (call : Seen) (calls : List ℕ) (name : List ℕ) (text : List ℕ) (failed : Bool) → RunsFile call name → Forms name call.texts text failed calls call.texts_after → WritesAll text (done_status failed) call.status call.out call.out_after call.err call.err_after → RunsAsSaid call calls
+run-written call calls name text failed named forms w =
+    let done = is-done failed call.status w.status_is in
+    let low = done-low call.status done in
+    let fails : (call.status ≡ 1) ↔ IsTrue (has_failed (reported forms.texts forms.file)) = rw forms.failed_is at (one-where failed call.status w.status_is) in
+    record {
+      finished = λ _. record {
+        name = name;
+        named = named;
+        file = forms.file;
+        texts = forms.texts;
+        ran = forms.ran;
+        writes = rw forms.text_is at w.takes;
+        failed = fails;
+        calls_are = forms.calls_are;
+      };
+      usage = (λ two. absurd (omega arith), λ unnamed. absurd (let n = named.1 in cc));
+      bad_job = λ three. absurd (omega arith);
+      read_fault = λ four. absurd (omega arith);
+      write_fault = λ five. absurd (omega arith);
+      too_large = λ seven. absurd (omega arith);
+      not_yet = λ eight. absurd (omega arith);
+      only = omega arith;
+      complete = λ can none. inl done;
+      no_calls = λ away _. absurd (away done);
+      outside = keeps-done call done w.quiet (ran-calm name call.texts call.texts_after forms.file forms.texts forms.ran);
+    }
+
+run-cut : (call : Seen) (calls : List ℕ) (name : List ℕ) (text : List ℕ) (failed : Bool) → RunsFile call name → Forms name call.texts text failed calls call.texts_after → WritesFront text call.status call.out call.out_after call.err call.err_after → RunsAsSaid call calls
+run-cut call calls name text failed named forms w =
+    let five = w.status_is in
+    record {
+      finished = λ done. absurd (not-done call.status WriteFault five done);
+      usage = (λ two. absurd (omega arith), λ unnamed. absurd (let n = named.1 in cc));
+      bad_job = λ three. absurd (omega arith);
+      read_fault = λ four. absurd (omega arith);
+      write_fault = λ _. record {
+        name = name;
+        named = named;
+        file = forms.file;
+        texts = forms.texts;
+        ran = forms.ran;
+        taken = w.taken;
+        front = rw forms.text_is at w.cut;
+        calls_are = forms.calls_are;
+      };
+      too_large = λ seven. absurd (omega arith);
+      not_yet = λ eight. absurd (omega arith);
+      only = omega arith;
+      complete = λ can none. absurd (none.out w.cut.rose);
+      no_calls = λ _ away. absurd (away five);
+      outside = keeps-cut call five w.hears (ran-calm name call.texts call.texts_after forms.file forms.texts forms.ran);
+    }
+
+run-call : (call : Seen) (calls : List ℕ) (name : List ℕ) → RunsFile call name → RunEnds name call.texts call.texts_after call.out call.out_after call.err call.err_after call.status calls → RunsAsSaid call calls
+run-call call calls name named ends =
+    elim ends [
+      | inl written ↦ elim written.writes [
+        | inl all ↦ run-written call calls name written.text written.failed named written.forms all
+        | inr front ↦ run-cut call calls name written.text written.failed named written.forms front
+      ]
+      | inr refused ↦ run-refused call calls name refused.refused.said named (run-said name call.texts call.texts_after refused.refusal refused.refused.said refused.stops refused.refused.stands) refused.refused.status_is refused.refused.hears refused.untouched refused.no_calls
+    ]
+
+usage-call : (call : Seen) (calls : List ℕ) → form call.words ≡ None → IsRefused Usage call.status call.err call.err_after → call.texts_after ≡ call.texts → call.out_after ≡ call.out → calls ≡ [] → RunsAsSaid call calls
+usage-call call calls unnamed refused same_texts same_out nothing =
+    let said = usage-said refused.said refused.stands in
+    let is : call.status ≡ status_of Usage = refused.status_is ∙ ap status_of said in
+    record {
+      finished = λ done. absurd (not-done call.status Usage is done);
+      usage = (λ _. unnamed, λ _. is);
+      bad_job = λ three. absurd (omega arith);
+      read_fault = λ four. absurd (omega arith);
+      write_fault = λ five. absurd (omega arith);
+      too_large = λ seven. absurd (omega arith);
+      not_yet = λ eight. absurd (omega arith);
+      only = omega arith;
+      complete = λ can none. absurd (let n = can.named.1 in cc);
+      no_calls = λ _ _. nothing;
+      outside = keeps-refused call Usage is (rw said at refused.hears) same_out (λ _. rw same_texts (calm-same call.texts));
+    }
+
+-- ---- the same, with what is seen of a call given one by one
+
+pub run-call-of : (words : List (List ℕ)) (texts texts_after : Source) (out out_after err err_after : Intake) (status : ℕ) (calls name : List ℕ) (workers : Option ℕ) → form words ≡ Some (run workers name) → RunEnds name texts texts_after out out_after err err_after status calls → IsCall (seen words texts texts_after out out_after err err_after status) calls
+run-call-of words texts texts_after out out_after err err_after status calls name workers named ends =
+    rw named (run-call (seen words texts texts_after out out_after err err_after status) calls name (workers, named) ends)
+
+pub check-is-call : (words : List (List ℕ)) (texts texts_after : Source) (out out_after err err_after : Intake) (status : ℕ) (calls name : List ℕ) → form words ≡ Some (check name) → CheckEnds name texts texts_after out out_after err err_after status → calls ≡ [] → IsCall (seen words texts texts_after out out_after err err_after status) calls
+check-is-call words texts texts_after out out_after err err_after status calls name named ends nothing =
+    rw named (check-call-of words texts texts_after out out_after err err_after status name named ends, nothing)
+
+pub usage-call-of : (words : List (List ℕ)) (texts out_texts : Source) (out out_after err err_after : Intake) (status : ℕ) (calls : List ℕ) → form words ≡ None → IsRefused Usage status err err_after → out_texts ≡ texts → out_after ≡ out → calls ≡ [] → IsCall (seen words texts out_texts out out_after err err_after status) calls
+usage-call-of words texts out_texts out out_after err err_after status calls unnamed refused same_texts same_out nothing =
+    rw unnamed (usage-call (seen words texts out_texts out out_after err err_after status) calls unnamed refused same_texts same_out nothing)
+
+-- ---- the items of a run
+
+items-front : (texts : Texts) (jobs : List Job) (k : ℕ) → items_of_all texts jobs ≡ items_of_all texts (take k jobs) ++ items_of_all texts (drop k jobs)
+items-front texts jobs k = ap (items_of_all texts) (sym (take-append-drop k jobs)) ∙ flat_map-append (λ (job : Job). items_of texts job.input) (take k jobs) (drop k jobs)
+
+-- items that pass a limit pass it with others behind them
+passes-more : (items more : List (List ℕ)) → PassesLimit items → PassesLimit (items ++ more)
+passes-more items more passes =
+    let count = length-append items more in
+    let size = sum_by-append length items more in
+    elim passes [
+      | inl many ↦ inl (omega (arith, count))
+      | inr large ↦ inr (omega (arith, size))
+    ]
+
+pub run-stops : (name : List ℕ) (old between new : Source) (file : JobFile) (texts : Texts) (fault : RunFault) → LoadsFile name old file between → IsTrue (are_runnable file.jobs) → LoadsTexts (texts_named file) between texts new → JobsStop texts file.jobs fault → RunStops name old (run_refusal fault) new
+run-stops name old between new file texts (ItemsTooLarge job items bytes) loads ready texts_load stops =
+    inr (inr (record {
+      file = file;
+      texts = texts;
+      between = between;
+      file_loads = loads;
+      runnable = ready;
+      texts_load = texts_load;
+      passes = rw (items-front texts file.jobs (job + 1)) (passes-more (items_up_to texts file.jobs job) (items_of_all texts (drop (job + 1) file.jobs)) stops.passes);
+    }))
+run-stops name old between new file texts RunMemory loads ready texts_load stops = calm-then old between new loads.loads.calm texts_load.calm

@@ -1,0 +1,57 @@
+-- Sums of the items of jobs, and what keeps them within the limits.
+use Rattle.std.proofs.Common.{◌≡◌, ℕ, zero, suc, ◌+◌, ◌<◌, List, [], ◌∷◌, ◌++◌, length, get_or, inl, inr, sym, subst, ◌∙◌, append_assoc, ⊎_elim, length-append, arith}
+use Rattle.std.specs.Prelude.{All, IsSome}
+use Rattle.std.proofs.lemmas.List.{get_or_append_left, get_or-append-add}
+use Rattle.std.proofs.lemmas.List.Sums.{sum_by-append}
+use Rattle.qtc_base.specs.Items.{PassesLimit}
+use Rattle.qtc_job.specs.declared.jobs.Job.{Job}
+use Rattle.qtc_outside.specs.Shelf.{text_under}
+use Rattle.qtc_run.specs.Loaded.{HasAll}
+use Rattle.qtc_run.specs.Sources.{Texts, items_of, items_of_all, names_of, names_of_all}
+
+-- a front of items that pass no limit passes none
+pub front-fits : (front rest : List (List ℕ)) → (PassesLimit (front ++ rest) → ⊥) → PassesLimit front → ⊥
+front-fits front rest fits passes =
+    let number = length-append front rest in
+    let bytes = sum_by-append length front rest in
+    fits (⊎_elim (λ many. inl (omega arith)) (λ large. inr (omega arith)) passes)
+
+-- nor does what is behind such a front
+middle-fits : (front rest : List (List ℕ)) → (PassesLimit (front ++ rest) → ⊥) → PassesLimit rest → ⊥
+middle-fits front rest fits passes =
+    let number = length-append front rest in
+    let bytes = sum_by-append length front rest in
+    fits (⊎_elim (λ many. inl (omega arith)) (λ large. inr (omega arith)) passes)
+
+pub one-fits : (front : List (List ℕ)) (item : List ℕ) (rest whole : List (List ℕ)) → whole ≡ front ++ item ∷ rest → (PassesLimit whole → ⊥) → PassesLimit (front ++ item ∷ []) → ⊥
+one-fits front item rest whole is fits =
+    front-fits (front ++ item ∷ []) rest (λ passes. fits (subst PassesLimit (append_assoc front (item ∷ []) rest ∙ sym is) passes))
+
+-- ---- the jobs one by one
+
+all-left : {X : Type 0} (P : X → Type 0) (xs ys : List X) → All P (xs ++ ys) → All P xs
+all-left P xs ys all = λ k d lt.
+    let within : k < length (xs ++ ys) = let len = length-append xs ys in omega arith in
+    subst P (get_or_append_left xs ys d k lt) (all k d within)
+
+all-right : {X : Type 0} (P : X → Type 0) (xs ys : List X) → All P (xs ++ ys) → All P ys
+all-right P xs ys all = λ k d lt.
+    let within : length xs + k < length (xs ++ ys) = let len = length-append xs ys in omega arith in
+    subst P (get_or-append-add xs ys k d) (all (length xs + k) d within)
+
+-- the texts that one of the jobs names are there
+pub named-at : (texts : Texts) (jobs : List Job) (place : ℕ) (job : Job) → HasAll texts (names_of_all jobs) → place < length jobs → job ≡ get_or jobs place job → HasAll texts (names_of job.input)
+named-at texts [] place job all lt is = absurd (omega arith)
+named-at texts (j ∷ jobs) zero job all lt is =
+    let first = all-left (λ name. IsSome (text_under texts name)) (names_of j.input) (names_of_all jobs) all in
+    subst (λ (job : Job). HasAll texts (names_of job.input)) (sym is) first
+named-at texts (j ∷ jobs) (suc place) job all lt is =
+    named-at texts jobs place job (all-right (λ name. IsSome (text_under texts name)) (names_of j.input) (names_of_all jobs) all) (omega arith) is
+
+-- the items of one of the jobs pass no limit where those of all don't
+pub fits-at : (texts : Texts) (jobs : List Job) (place : ℕ) (job : Job) → (PassesLimit (items_of_all texts jobs) → ⊥) → place < length jobs → job ≡ get_or jobs place job → PassesLimit (items_of texts job.input) → ⊥
+fits-at texts [] place job fits lt is passes = absurd (omega arith)
+fits-at texts (j ∷ jobs) zero job fits lt is passes =
+    front-fits (items_of texts j.input) (items_of_all texts jobs) fits (subst (λ (job : Job). PassesLimit (items_of texts job.input)) is passes)
+fits-at texts (j ∷ jobs) (suc place) job fits lt is passes =
+    fits-at texts jobs place job (middle-fits (items_of texts j.input) (items_of_all texts jobs) fits) (omega arith) is passes

@@ -1,0 +1,90 @@
+-- Texts under their names, in a table.
+use Rattle.std.proofs.Common.{◌≡◌, ℕ, ◌<◌, ◌≤◌, Bool, true, false, cond, List, [], ◌∷◌, ◌++◌, length, map, Option, Some, None, Bor, refl, ap, sym, ◌∙◌, ⊎_elim, arith}
+use Rattle.indexmap.specs.IndexMap.{insert_entry}
+use Rattle.std.specs.Prelude.{All, IsSome, option_copied}
+use Rattle.std.specs.Map.{lookup}
+use Rattle.std.specs.Str.{bytes_eq}
+use Rattle.std.proofs.lemmas.Bool.{cases_Bool, cases_lt}
+use Rattle.std.proofs.lemmas.Cmp.{nat_list_eq_equiv}
+use Rattle.std.proofs.lemmas.List.{get_or_append_left, get_or_push, length_push}
+use Rattle.std.proofs.lemmas.List.Elements.{All-push, All-nil, All-cons, All-head, All-tail}
+use Rattle.std.proofs.lemmas.Slice.Eq.{bytes_eq-Decides}
+use Rattle.qtc_outside.specs.Shelf.{text_under}
+use Rattle.qtc_run.specs.Loaded.{most_text, AreTexts}
+
+-- a look-up that finds nothing
+cond-none : (b : Bool) (text : List ℕ) (o : Option (List ℕ)) → cond b (Some text) o ≡ None → (b ≡ false) × (o ≡ None)
+cond-none true text o e = absurd (let f : Some text ≡ None = e in cc)
+cond-none false text o e = (refl, e)
+
+-- ---- a table whose names are seen as lists of bytes
+
+module _ {K : Type 0} (bytes : K → List ℕ) where
+  abbrev seen : List (K × List ℕ) → List (List ℕ × List ℕ)
+  seen entries = map (λ entry. (bytes entry.0, entry.1)) entries
+
+  -- what is looked up in the table is the text under the name
+  pub lookup-under : (name : List ℕ) (entries : List (K × List ℕ)) → lookup (λ k. bytes_eq name (bytes k)) entries ≡ text_under (seen entries) name
+  lookup-under name [] = refl
+  lookup-under name (entry ∷ entries) =
+      ap (λ b. cond b (Some entry.1) (lookup (λ k. bytes_eq name (bytes k)) entries)) (nat_list_eq_equiv.symm name (bytes entry.0))
+      ∙ ap (λ o. cond (bytes_eq (bytes entry.0) name) (Some entry.1) o) (lookup-under name entries)
+
+  -- a text under a new name goes last
+  insert-seen : (k : K) (text : List ℕ) (entries : List (K × List ℕ)) → text_under (seen entries) (bytes k) ≡ None → seen (insert_entry (λ a b. bytes_eq (bytes a) (bytes b)) entries k text) ≡ seen entries ++ (bytes k, text) ∷ []
+  insert-seen k text [] none = refl
+  insert-seen k text (entry ∷ entries) none =
+      let parts = cond-none (bytes_eq (bytes entry.0) (bytes k)) entry.1 (text_under (seen entries) (bytes k)) none in
+      let other : bytes_eq (bytes k) (bytes entry.0) ≡ false = nat_list_eq_equiv.symm (bytes k) (bytes entry.0) ∙ parts.0 in
+      ap (λ b. seen (cond b ((entry.0, text) ∷ entries) (entry ∷ insert_entry (λ a b. bytes_eq (bytes a) (bytes b)) entries k text))) other
+      ∙ ap (λ es. (bytes entry.0, entry.1) ∷ es) (insert-seen k text entries parts.1)
+
+  pub seen-insert : (name text : List ℕ) (k : K) (entries fs : List (K × List ℕ)) → bytes k ≡ name → text_under (seen entries) name ≡ None → fs ≡ insert_entry (λ a b. bytes_eq (bytes a) (bytes b)) entries k text → seen fs ≡ seen entries ++ (name, text) ∷ []
+  seen-insert name text k entries fs is none put =
+      ap seen put ∙ (insert-seen k text entries (ap (text_under (seen entries)) is ∙ none) ∙ ap (λ n. seen entries ++ (n, text) ∷ []) is)
+
+-- what the table gives, as what it points to
+pub some-copied : {X : Type 0} (o : Option (Bor X)) → IsSome (option_copied o) → IsSome o
+some-copied None h = h
+some-copied (Some x) h = refl
+
+-- ---- a text more
+
+abbrev Differ : List ℕ × List ℕ → List ℕ × List ℕ → Type 0
+Differ a b = ¬ (a.0 ≡ b.0)
+
+-- no text has a name that none is under
+none-named : (texts : List (List ℕ × List ℕ)) (name : List ℕ) → text_under texts name ≡ None → All (λ pair. ¬ (pair.0 ≡ name)) texts
+none-named [] name none = All-nil (λ pair. ¬ (pair.0 ≡ name))
+none-named (pair ∷ texts) name none =
+    let parts = cond-none (bytes_eq pair.0 name) pair.1 (text_under texts name) none in
+    All-cons (λ pair. ¬ (pair.0 ≡ name)) pair texts
+    (λ same. let hit = (bytes_eq-Decides pair.0 name).1 same in let both : true ≡ false = sym hit ∙ parts.0 in cc)
+    (none-named texts name parts.1)
+
+pub texts-more : (texts : List (List ℕ × List ℕ)) (name text : List ℕ) → AreTexts texts → text_under texts name ≡ None → length text ≤ most_text → AreTexts (texts ++ (name, text) ∷ [])
+texts-more texts name text are none short = record {
+  distinct = λ i j d lt within.
+      let len = length_push texts (name, text) in
+      ⊎_elim
+      (λ (low : j < length texts). rw (get_or_append_left texts ((name, text) ∷ []) d i (omega arith), get_or_append_left texts ((name, text) ∷ []) d j low) (are.distinct i j d lt low))
+      (λ (high : length texts ≤ j).
+      let at : length texts ≡ j = omega arith in
+      rw (get_or_append_left texts ((name, text) ∷ []) d i (omega arith), get_or_push texts (name, text) d j at) (none-named texts name none i d (omega arith)))
+      (cases_lt j (length texts));
+  short = All-push (λ pair. length pair.1 ≤ most_text) texts (name, text) are.short short;
+}
+
+-- the text under a name is short
+pub under-short : (texts : List (List ℕ × List ℕ)) (name text : List ℕ) → All (λ pair. length pair.1 ≤ most_text) texts → text_under texts name ≡ Some text → length text ≤ most_text
+under-short [] name text short is = absurd cc
+under-short (pair ∷ texts) name text short is =
+    ⊎_elim
+    (λ (hit : bytes_eq pair.0 name ≡ true).
+    let same : pair.1 ≡ text = let e : Some pair.1 ≡ Some text = sym (ap (λ b. cond b (Some pair.1) (text_under texts name)) hit) ∙ is in cc in
+    let first = All-head (λ pair. length pair.1 ≤ most_text) pair texts short in
+    let len = ap length same in
+    omega arith)
+    (λ (miss : bytes_eq pair.0 name ≡ false).
+    under-short texts name text (All-tail (λ pair. length pair.1 ≤ most_text) pair texts short) (sym (ap (λ b. cond b (Some pair.1) (text_under texts name)) miss) ∙ is))
+    (cases_Bool (bytes_eq pair.0 name))

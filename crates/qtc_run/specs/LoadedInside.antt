@@ -1,0 +1,8 @@
+-- How the texts lie in their table.
+use Rattle.std.specs.Prelude.{map}
+use Rattle.qtc_run.specs.Sources.{Texts}
+use Rattle.qtc_run.specs.declared.loaded.Loaded.TheInside.{Inside}
+
+-- the entries of the table, the names seen as lists of bytes
+abbrev pub seen_texts : Inside → Texts
+seen_texts s = map (λ entry. (entry.0.items, entry.1)) s.texts.entries

@@ -1,0 +1,38 @@
+//! What the definitions of `specs/` come to, in other words.
+ghost use Rattle.qtc_run.specs.Laws.{CallsAreOnce, JobsAreReportedInOrder, JobsFailAtTheFirstBad, LinesCountFeeds, PiecesAreTheText, ReportsGoJobByJob, ReadFilesCanBeCounted};
+
+/// Each piece but the last has as many bytes as the job says, the last has 1 to as many, and one after the other they
+/// are the text.
+pub fn pieces_are_the_text()
+    ensures { PiecesAreTheText }
+{}
+
+/// A text has a line for each LF and one for what is after the last LF, and every other byte stands in a line.
+pub fn lines_count_feeds()
+    ensures { LinesCountFeeds }
+{}
+
+/// A job fails with the first bad item, and where none is bad it ends with the kept texts.
+pub fn jobs_fail_at_the_first_bad()
+    ensures { JobsFailAtTheFirstBad }
+{}
+
+/// Each index below the number of items worked on is called once, and no other is.
+pub fn calls_are_once()
+    ensures { CallsAreOnce }
+{}
+
+/// One job more at the end of a file appends its text to the report.
+pub fn reports_go_job_by_job()
+    ensures { ReportsGoJobByJob }
+{}
+
+/// A run reports as many jobs as the file has, each at its place.
+pub fn jobs_are_reported_in_order()
+    ensures { JobsAreReportedInOrder }
+{}
+
+/// Every file that the grammar reads has few enough jobs and items to be counted.
+pub fn read_files_can_be_counted()
+    ensures { ReadFilesCanBeCounted }
+{}

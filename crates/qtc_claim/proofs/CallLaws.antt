@@ -1,5 +1,5 @@
 -- The law of calls, and what a worker's loop needs.
-use Rattle.std.proofs.Common.{◌≡◌, ℕ, ◌+◌, ◌<◌, ◌≤◌, ◌==◌, cond, nat_lt, List, [], ◌∷◌, ◌++◌, map, sym, ap, ◌∙◌, subst, arith, inl, inr, All, length, get_or, append-nil, Option, Result, Some, Ok, IfSome, IfOk, option_to_list}
+use Rattle.std.proofs.Common.{◌≡◌, ℕ, ◌+◌, ◌<◌, ◌≤◌, ◌==◌, cond, nat_lt, nat_le, List, [], ◌∷◌, ◌++◌, map, sym, ap, ◌∙◌, subst, arith, inl, inr, All, length, get_or, append-nil, Option, Result, Some, Ok, IfSome, IfOk, option_to_list}
 use Rattle.std.proofs.lemmas.Bool.Decides.{nat_tests}
 use Rattle.std.proofs.lemmas.List.Sums.{sum_by-append, sum_by_push}
 use Rattle.std.proofs.lemmas.List.{map-append}
@@ -7,9 +7,9 @@ use Rattle.std.proofs.lemmas.List.Elements.{All-pop}
 use Rattle.std.proofs.lemmas.List.Concat.{flat_map-append}
 use native.Mathlib.Decide.{dec_lt}
 use Rattle.qtc_base.specs.Ranges.{in_range, times_covered, Tiles}
-use Rattle.qtc_claim.specs.Claims.{Addition, Worker, new_worker, claims_of, clipped}
-use Rattle.qtc_claim.specs.Counter.{CounterId, PieceState, TallyState, ClaimsPiece, ClaimsNone, HasAll, KnowsClaims, added_by}
-use Rattle.qtc_claim.specs.Laws.{times_called, AreCalls, EachOnce, CallsComeTogether}
+use Rattle.qtc_claim.specs.Claims.{Addition, added, Worker, new_worker, claims_of, clipped}
+use Rattle.qtc_claim.specs.Counter.{CounterId, PieceState, TallyState, ClaimsPiece, ClaimsNone, HasAll, IsEnd, KnowsClaims, added_by}
+use Rattle.qtc_claim.specs.Laws.{times_called, AreCalls, EachOnce, CallsComeTogether, NoneMissing, added_for}
 
 pub calls_together : (n : ℕ) (claims more : List Addition) (calls further : List ℕ) → AreCalls n claims calls → AreCalls n more further → AreCalls n (claims ++ more) (calls ++ further)
 calls_together n claims more calls further are are' index =
@@ -121,3 +121,67 @@ called_by_all n workers counter tally calls n_is workers_is some_worker of_is lo
     let past' : All (λ (worker : Worker). tally.of.n ≤ worker.seen) tally.workers = subst (λ k. All (λ (worker : Worker). k ≤ worker.seen) tally.workers) (sym whose) past in
     let are' : AreCalls tally.of.n (claims_of tally.workers) calls = subst (λ k. AreCalls k (claims_of tally.workers) calls) (sym whose) are in
     subst (λ k. EachOnce k calls) (whose ∙ n_is) (called_all tally calls all (omega arith) past' told are')
+
+-- no piece is missing: after a claim, and of one worker more
+pub missing_piece : (counter : CounterId) (size : ℕ) (before after : Worker) (piece : PieceState) (pieces pieces' : List PieceState) → ClaimsPiece counter size before after piece
+    → pieces' ≡ pieces ++ piece ∷ [] → NoneMissing counter.n before.claims (added_for pieces) → NoneMissing counter.n after.claims (added_for pieces')
+missing_piece counter size before after piece pieces pieces' claim pieces_are none =
+    let a = piece.addition in
+    let n = counter.n in
+    let claims_are : after.claims ≡ before.claims ++ a ∷ [] = ap (λ (w : Worker). w.claims) claim.adds.grown in
+    let all = sum_by_push (λ (it : Addition). it.size) before.claims a in
+    let past = sum_by_push (λ (it : Addition). cond (nat_le n it.begin) it.size 0) before.claims a in
+    let not_past : cond (nat_le n a.begin) a.size 0 ≡ 0 = let below = claim.below in grind (arith, nat_tests) in
+    let pushed = sum_by_push (λ (it : PieceState). it.addition.size) pieces piece in
+    let mine : NoneMissing n (before.claims ++ a ∷ []) (added_for (pieces ++ piece ∷ [])) = omega arith in
+    subst (λ cs. NoneMissing n cs (added_for pieces')) (sym claims_are) (subst (λ ps. NoneMissing n (before.claims ++ a ∷ []) (added_for ps)) (sym pieces_are) mine)
+
+pub missing_no_piece : (counter : CounterId) (size : ℕ) (before after : Worker) (pieces : ℕ) → ClaimsNone counter.n size before after → NoneMissing counter.n before.claims pieces → NoneMissing counter.n after.claims pieces
+missing_no_piece counter size before after pieces claim none = elim claim [
+  | inl past ↦ subst (λ (w : Worker). NoneMissing counter.n w.claims pieces) (sym past.1) none
+  | inr added ↦ subst (λ (w : Worker). NoneMissing counter.n w.claims pieces) (sym added.2.grown) (more added.0 added.1)
+]
+  where
+    more : (a : Addition) → counter.n ≤ a.begin → NoneMissing counter.n (before.claims ++ a ∷ []) pieces
+    more a far =
+        let all = sum_by_push (λ (it : Addition). it.size) before.claims a in
+        let past = sum_by_push (λ (it : Addition). cond (nat_le counter.n it.begin) it.size 0) before.claims a in
+        let is_past : cond (nat_le counter.n a.begin) a.size 0 ≡ a.size = grind (arith, nat_tests) in
+        omega arith
+
+pub missing_worker : (n : ℕ) (workers workers' : List Worker) (worker : Worker) (pieces more pieces' : ℕ) → workers' ≡ workers ++ worker ∷ [] → pieces' ≡ pieces + more
+    → NoneMissing n (claims_of workers) pieces → NoneMissing n worker.claims more → NoneMissing n (claims_of workers') pieces'
+missing_worker n workers workers' worker pieces more pieces' workers_are pieces_are none none' =
+    let claims_are : claims_of workers' ≡ claims_of workers ++ worker.claims = ap claims_of workers_are ∙ claims_next workers worker in
+    let all = sum_by-append (λ (it : Addition). it.size) (claims_of workers) worker.claims in
+    let past = sum_by-append (λ (it : Addition). cond (nat_le n it.begin) it.size 0) (claims_of workers) worker.claims in
+    subst (λ cs. NoneMissing n cs pieces') (sym claims_are) (omega arith)
+
+-- the pieces that are left to gather, after the last one was taken
+pub popped_pieces : (gathered : List Addition) (pieces left : List PieceState) (taken : Option PieceState) (piece : PieceState) (gathered' : List Addition) (all : ℕ) → pieces ≡ left ++ option_to_list taken → taken ≡ Some piece
+    → gathered' ≡ gathered ++ piece.addition ∷ [] → added gathered + added_for pieces ≡ all → added gathered' + added_for left ≡ all
+popped_pieces gathered pieces left taken piece gathered' all pieces_are taken_is gathered_is sum =
+    let parts : added_for pieces ≡ added_for left + added_for (piece ∷ []) =
+    ap added_for (pieces_are ∙ ap (λ r. left ++ option_to_list r) taken_is) ∙ sum_by-append (λ (it : PieceState). it.addition.size) left (piece ∷ [])
+    in
+    let more : added gathered' ≡ added gathered + piece.addition.size = ap added gathered_is ∙ sum_by_push (λ (it : Addition). it.size) gathered piece.addition in
+    omega arith
+
+-- where nothing is missing and a worker saw the end, the counter is at its end
+pub ended_all : (tally : TallyState) → HasAll tally → 1 ≤ length tally.workers → All (λ (worker : Worker). tally.of.n ≤ worker.seen) tally.workers
+    → (HasAll tally → KnowsClaims tally) → NoneMissing tally.of.n (claims_of tally.workers) (added tally.pieces) → IsEnd tally
+ended_all tally all some_worker past told none =
+    let knows = told all in
+    let nobody : Worker = new_worker 0 in
+    let seen : (get_or tally.workers 0 nobody).seen ≤ added_by tally.workers = knows.seen 0 nobody (omega arith) in
+    let far : tally.of.n ≤ (get_or tally.workers 0 nobody).seen = past 0 nobody (omega arith) in
+    record { all = all; nothing_out = none; past = omega arith }
+
+pub ended_by_all : (n workers : ℕ) (counter : CounterId) (tally : TallyState) → counter.workers ≡ workers → 1 ≤ workers → tally.of ≡ counter → length tally.workers ≡ workers
+    → All (λ (worker : Worker). counter.n ≤ worker.seen) tally.workers → (HasAll tally → KnowsClaims tally) → NoneMissing counter.n (claims_of tally.workers) (added tally.pieces) → IsEnd tally
+ended_by_all n workers counter tally workers_is some_worker of_is long past told none =
+    let whose : tally.of.n ≡ counter.n = ap (λ (c : CounterId). c.n) of_is in
+    let all : HasAll tally = long ∙ sym workers_is ∙ sym (ap (λ (c : CounterId). c.workers) of_is) in
+    let past' : All (λ (worker : Worker). tally.of.n ≤ worker.seen) tally.workers = subst (λ k. All (λ (worker : Worker). k ≤ worker.seen) tally.workers) (sym whose) past in
+    let none' : NoneMissing tally.of.n (claims_of tally.workers) (added tally.pieces) = subst (λ k. NoneMissing k (claims_of tally.workers) (added tally.pieces)) (sym whose) none in
+    ended_all tally all (omega arith) past' told none'

@@ -1,7 +1,8 @@
 -- The calls on what was claimed. (Own.)
-use Rattle.std.specs.Prelude.{◌≡◌, ℕ, ◌+◌, ◌≤◌, ◌==◌, cond, if◌then◌else◌, nat_lt, List, ◌++◌, All, Result, IfOk, map, count_by}
+use Rattle.std.specs.Prelude.{◌≡◌, ℕ, ◌+◌, ◌≤◌, ◌==◌, cond, if◌then◌else◌, nat_lt, List, ◌++◌, All, Result, IfOk, map, sum_by, count_by}
 use Rattle.qtc_base.specs.Ranges.{in_range, times_covered, Tiles}
-use Rattle.qtc_claim.specs.Claims.{Addition, clipped, MeetNowhere}
+use Rattle.qtc_claim.specs.Claims.{Addition, clipped, added, added_past, MeetNowhere}
+use Rattle.qtc_claim.specs.Counter.{PieceState}
 
 -- how often the index was called
 abbrev pub times_called : List ℕ → ℕ → ℕ
@@ -15,6 +16,14 @@ AreCalls n claims calls = (index : ℕ) → times_called calls index ≡ times_c
 abbrev pub CallsRange : (before : List ℕ) → ℕ × ℕ → (after : List ℕ) → Type 0
 CallsRange before range after =
     (index : ℕ) → times_called after index ≡ times_called before index + cond (in_range index range) 1 0
+
+-- what the pieces added, and the additions that gave none, is all that was claimed: no piece is missing
+abbrev pub NoneMissing : ℕ → List Addition → (pieces : ℕ) → Type 0
+NoneMissing n claims pieces = pieces + added_past n claims ≡ added claims
+
+-- what the additions of the pieces added
+abbrev pub added_for : List PieceState → ℕ
+added_for pieces = sum_by (λ piece. piece.addition.size) pieces
 
 -- what holds of each answer that isn't a want of memory
 abbrev pub AllOk : {X E : Type 0} → (X → Type 0) → List (Result X E) → Type 0

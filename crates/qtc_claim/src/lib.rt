@@ -2,8 +2,8 @@
 //!
 //! - `Counter::new` gives a counter over the indexes below `n`, a seat for each worker, and a tally.
 //! - A worker calls `claim` on its own seat until it gives None, works on the indexes of each piece, and keeps a list
-//!   of its calls. Its loop needs one invariant, `AreCalls n seat.worker.claims calls`, and none that names another
-//!   worker.
+//!   of its calls and its pieces. Its loop keeps `AreCalls n seat.worker.claims calls`, and `NoneMissing` of what its
+//!   pieces added, and nothing that names another worker.
 //! - At the end the tally gathers all pieces and all seats, and `Counter::end` says whether nothing is missing.
 //!   `calls_come_together` is the law by which the lists of all workers have each index once.
 //!

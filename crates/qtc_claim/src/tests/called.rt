@@ -1,8 +1,8 @@
 // Any number of threads claim from one counter, call a function on each index and list it. The clause of
 // `call_each` says that the lists together have each index below n once.
-ghost use Rattle.std.specs.Prelude.{◌≡◌, ℕ, ◌+◌, ◌<◌, ◌≤◌, ◌++◌, ◌∷◌, [], All, MatchResult, IfOk, OnOk, length};
-ghost use Rattle.qtc_claim.specs.Claims.{IsWithinLimits, most_size, claims_of, clipped};
-ghost use Rattle.qtc_claim.specs.Laws.{CallsRange, AllOk, AreCalls, EachOnce};
+ghost use Rattle.std.specs.Prelude.{◌≡◌, ℕ, ◌+◌, ◌<◌, ◌≤◌, ◌++◌, ◌∷◌, [], All, MatchResult, IfOk, OnOk, IsTrue, length};
+ghost use Rattle.qtc_claim.specs.Claims.{IsWithinLimits, most_size, added, claims_of};
+ghost use Rattle.qtc_claim.specs.Laws.{CallsRange, AllOk, AreCalls, EachOnce, NoneMissing, added_for};
 
 use crate::{Counter, Piece, Seat, Tally};
 use qtc_base::{NoMemory, Range};
@@ -77,6 +77,7 @@ fn work<F: Fn(u32)>(
     ensures past { IfOk result (λ worked. counter.now.n ≤ worked.seat.worker.seen) }
     ensures calls { IfOk result (λ worked. AreCalls counter.now.n worked.seat.worker.claims worked.calls.items) }
     ensures pieces { IfOk result (λ worked. All (λ piece. piece.of ≡ counter.now) worked.pieces.items) }
+    ensures missing { IfOk result (λ w. NoneMissing counter.now.n w.seat.worker.claims (added_for w.pieces.items)) }
 {
     let mut calls = Vec::new(alloc);
     let mut pieces = Vec::new(alloc);
@@ -95,7 +96,8 @@ fn work<F: Fn(u32)>(
 fn gather_pieces(counter: &Counter, tally: &mut Tally, mut pieces: Vec<Piece>)
     requires tally { tally.old.of ≡ counter.now }
     requires pieces { All (λ piece. piece.of ≡ counter.now) pieces.items }
-    ensures { (tally.new.of ≡ counter.now) × (tally.new.workers ≡ tally.old.workers) }
+    ensures same { (tally.new.of ≡ counter.now) × (tally.new.workers ≡ tally.old.workers) }
+    ensures added { added tally.new.pieces ≡ added tally.old.pieces + added_for pieces.items }
 {
     while let Some(piece) = pieces.pop() {
         tally.gather(counter, piece);
@@ -113,10 +115,13 @@ fn gather_one(
     requires seat { worked.seat.of ≡ counter.now }
     requires calls { AreCalls counter.now.n worked.seat.worker.claims worked.calls.items }
     requires pieces { All (λ piece. piece.of ≡ counter.now) worked.pieces.items }
+    requires missing { NoneMissing counter.now.n worked.seat.worker.claims (added_for worked.pieces.items) }
     requires so_far { AreCalls counter.now.n (claims_of tally.old.workers) calls.old.items }
+    requires none_yet { NoneMissing counter.now.n (claims_of tally.old.workers) (added tally.old.pieces) }
     ensures of { tally.new.of ≡ counter.now }
     ensures workers { tally.new.workers ≡ tally.old.workers ++ worked.seat.worker ∷ [] }
     ensures calls { OnOk result (AreCalls counter.now.n (claims_of tally.new.workers) calls.new.items) }
+    ensures missing { OnOk result (NoneMissing counter.now.n (claims_of tally.new.workers) (added tally.new.pieces)) }
 {
     let Worked {
         seat,
@@ -141,10 +146,12 @@ fn gather_all(
     requires past { AllOk (λ worked. counter.now.n ≤ worked.seat.worker.seen) all.items }
     requires calls { AllOk (λ worked. AreCalls counter.now.n worked.seat.worker.claims worked.calls.items) all.items }
     requires pieces { AllOk (λ worked. All (λ piece. piece.of ≡ counter.now) worked.pieces.items) all.items }
+    requires missing { AllOk (λ w. NoneMissing counter.now.n w.seat.worker.claims (added_for w.pieces.items)) all.items }
     ensures of { OnOk result (tally.new.of ≡ counter.now) }
     ensures all { OnOk result (length tally.new.workers ≡ length all.items) }
     ensures past { OnOk result (All (λ worker. counter.now.n ≤ worker.seen) tally.new.workers) }
     ensures calls { IfOk result (λ calls. AreCalls counter.now.n (claims_of tally.new.workers) calls.items) }
+    ensures missing { OnOk result (NoneMissing counter.now.n (claims_of tally.new.workers) (added tally.new.pieces)) }
 {
     let mut calls = Vec::new(alloc);
     while let Some(told) = all.pop() {
@@ -165,7 +172,8 @@ fn call_each<F: Fn(u32) + Sync, P: Fn(u64) -> Sizes + Sync, R: Threads + Sync>(
 ) -> Result<(Vec<u32>, bool), NoMemory>
     requires limits { IsWithinLimits n workers }
     requires call { F.IsAlwaysCallable call.now × P.IsAlwaysCallable pick.now }
-    ensures { IfOk result (λ told. EachOnce n told.0.items) }
+    ensures calls { IfOk result (λ told. EachOnce n told.0.items) }
+    ensures ended { IfOk result (λ told. IsTrue told.1) }
 {
     let (counter, seats, mut tally) = Counter::new(alloc, n, workers)?;
     let turns = AtomicU64::new(0);
@@ -179,6 +187,7 @@ fn call_each<F: Fn(u32) + Sync, P: Fn(u64) -> Sizes + Sync, R: Threads + Sync>(
             ensures past { IfOk result (λ worked. counter.n ≤ worked.seat.worker.seen) }
             ensures calls { IfOk result (λ worked. AreCalls counter.n worked.seat.worker.claims worked.calls.items) }
             ensures pieces { IfOk result (λ worked. All (λ piece. piece.of ≡ counter) worked.pieces.items) }
+            ensures missing { IfOk result (λ w. NoneMissing counter.n w.seat.worker.claims (added_for w.pieces.items)) }
         {
             let turn = turns.fetch_add(1, SeqCst);
             work(alloc, &counter, seat, pick(turn), call)

@@ -1,7 +1,7 @@
 use Rattle.std.proofs.Common.{◌≡◌, ◌≤◌, ◌+◌, ◌∷◌, [], All, arith, ap, ◌∙◌, sym, subst, Some, length, length-append, option_to_list}
 use Rattle.std.proofs.lemmas.List.Elements.{All-push}
 use Rattle.qtc_claim.specs.Claims.{Worker}
-use Rattle.qtc_claim.specs.Laws.{AreCalls}
+use Rattle.qtc_claim.specs.Laws.{AreCalls, NoneMissing, added_for}
 use Rattle.qtc_claim.proofs.CallLaws.{popped_ok, popped_left}
 use Rattle.qtc_claim.proofs.tests.called.gather_all.Goals as goal
 
@@ -26,6 +26,8 @@ loop-told-preserved c =
       of = c.gather_one.ensures.of;
       count = omega arith;
       past = subst (λ ws. All (λ (worker : Worker). n ≤ worker.seen) ws) (sym c.gather_one.ensures.workers) seen;
+      missing = c.in_ok-gather_one.ensures.missing;
+      missing_left = popped_left (λ w. NoneMissing n w.seat.worker.claims (added_for w.pieces.items)) all left c.pop.result c.pop.ensures.items is.missing_left;
       calls = c.in_ok-gather_one.ensures.calls;
       seats_left = popped_left (λ worked. worked.seat.of ≡ c.args.counter.now) all left c.pop.result c.pop.ensures.items is.seats_left;
       past_left = popped_left (λ worked. n ≤ worked.seat.worker.seen) all left c.pop.result c.pop.ensures.items is.past_left;

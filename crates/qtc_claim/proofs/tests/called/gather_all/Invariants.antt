@@ -1,6 +1,6 @@
 use Rattle.std.proofs.Common.{◌≡◌, ◌≤◌, ◌+◌, All, IfOk, length}
-use Rattle.qtc_claim.specs.Claims.{claims_of}
-use Rattle.qtc_claim.specs.Laws.{AreCalls}
+use Rattle.qtc_claim.specs.Claims.{added, claims_of}
+use Rattle.qtc_claim.specs.Laws.{AreCalls, NoneMissing, added_for}
 use Rattle.qtc_claim.proofs.tests.called.gather_all.Given as goal
 
 abbrev pub invariant-loop-told : goal.invariant-loop-told
@@ -8,6 +8,8 @@ invariant-loop-told l = record {
   of : l.tally.of ≡ l.counter;
   count : length l.tally.workers + length l.all.items ≡ length l.initial.all.items;
   past : All (λ worker. l.counter.n ≤ worker.seen) l.tally.workers;
+  missing : NoneMissing l.counter.n (claims_of l.tally.workers) (added l.tally.pieces);
+  missing_left : All (λ told. IfOk told (λ w. NoneMissing l.counter.n w.seat.worker.claims (added_for w.pieces.items))) l.all.items;
   calls : AreCalls l.counter.n (claims_of l.tally.workers) l.calls.items;
   seats_left : All (λ told. IfOk told (λ worked. worked.seat.of ≡ l.counter)) l.all.items;
   past_left : All (λ told. IfOk told (λ worked. l.counter.n ≤ worked.seat.worker.seen)) l.all.items;

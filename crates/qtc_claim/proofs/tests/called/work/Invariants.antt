@@ -1,6 +1,6 @@
 use Rattle.std.proofs.Common.{◌≡◌, ◌+◌, ◌-◌, ◌*◌, All}
 use Rattle.qtc_claim.specs.Claims.{most_size}
-use Rattle.qtc_claim.specs.Laws.{AreCalls}
+use Rattle.qtc_claim.specs.Laws.{AreCalls, NoneMissing, added_for}
 use Rattle.qtc_claim.proofs.tests.called.work.Given as goal
 
 abbrev pub invariant-loop-piece : goal.invariant-loop-piece
@@ -8,6 +8,7 @@ invariant-loop-piece g l = record {
   callable : goal.F-IsAlwaysCallable g l.call;
   of : l.seat.of ≡ l.counter;
   calls : AreCalls l.counter.n l.seat.worker.claims l.calls.items;
+  missing : NoneMissing l.counter.n l.seat.worker.claims (added_for l.pieces.items);
   pieces : All (λ piece. piece.of ≡ l.counter) l.pieces.items;
 }
 

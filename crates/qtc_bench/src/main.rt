@@ -2,6 +2,7 @@
 #![tactic(auto)]
 
 use claims::print_claims;
+use digests::print_digests;
 use locks::print_locks;
 use operations::print_operations;
 use std::process::ExitCode;
@@ -9,6 +10,7 @@ use std::{env, io};
 use stores::{Order, print_filled, print_stores};
 
 mod claims;
+mod digests;
 mod locks;
 mod operations;
 mod stores;
@@ -19,6 +21,7 @@ mod timing;
 /// What can be asked for.
 const USAGE: &str = "\
 usage: qtc_bench ops    the operations of jobs over 1000000 lines, ns an item
+       qtc_bench digest the digest of items of 1 MiB beside the kit's alone, ns an item
        qtc_bench lock   a lock that is known by its key beside std's, ns for a take and a put
        qtc_bench store  a store of results, ns for an add and a get
        qtc_bench fill ascending|descending|shuffled    1000000 batches in a store
@@ -36,6 +39,7 @@ fn main(rt: HostRuntime) -> io::Result<ExitCode> {
     let order = second.as_ref().map(|word| word.as_str());
     match (word.as_str(), order) {
         ("ops", None) => print_operations(&rt, alloc)?,
+        ("digest", None) => print_digests(&rt, alloc)?,
         ("lock", None) => print_locks(&rt, alloc)?,
         ("store", None) => print_stores(&rt, alloc)?,
         ("fill", Some("ascending")) => print_filled(&rt, alloc, Order::Ascending)?,

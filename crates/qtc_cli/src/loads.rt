@@ -48,8 +48,10 @@ fn load_named<T: Texts>(
     name: &[u8],
     shelf: &mut Shelf,
 ) -> Result<(), LoadFault>
-    ensures ok { OnOk result (LoadsNext shelf.old.loaded (T.source texts.old) name.now shelf.new.loaded (T.source texts.new)) }
-    ensures err { IfErr result (λ fault. NextStops shelf.old.loaded (T.source texts.old) name.now fault (T.source texts.new)) }
+    ensures ok { OnOk result
+        (LoadsNext shelf.old.loaded (T.source texts.old) name.now shelf.new.loaded (T.source texts.new)) }
+    ensures err { IfErr result (λ fault.
+        NextStops shelf.old.loaded (T.source texts.old) name.now fault (T.source texts.new)) }
 {
     if shelf.loaded.get(name).is_some() {
         return Ok(());
@@ -70,8 +72,10 @@ fn load_all<T: Texts>(
     names: &[Bytes],
     shelf: &mut Shelf,
 ) -> Result<(), LoadFault>
-    ensures ok { OnOk result (LoadsMore names.now shelf.old.loaded (T.source texts.old) shelf.new.loaded (T.source texts.new)) }
-    ensures err { IfErr result (λ fault. NamesStop names.now shelf.old.loaded (T.source texts.old) fault (T.source texts.new)) }
+    ensures ok { OnOk result
+        (LoadsMore names.now shelf.old.loaded (T.source texts.old) shelf.new.loaded (T.source texts.new)) }
+    ensures err { IfErr result (λ fault.
+        NamesStop names.now shelf.old.loaded (T.source texts.old) fault (T.source texts.new)) }
 {
     for name in names {
         match load_named(alloc, texts, name.as_slice(), shelf) {
@@ -88,9 +92,11 @@ pub fn load_texts<T: Texts>(
     texts: &mut T,
     file: &JobFile,
 ) -> Result<Loaded, LoadFault>
-    ensures ok { IfOk result (λ loaded. LoadsTexts (texts_to_load file.now) (T.source texts.old) loaded (T.source texts.new)) }
+    ensures ok { IfOk result (λ loaded.
+        LoadsTexts (texts_to_load file.now) (T.source texts.old) loaded (T.source texts.new)) }
     ensures all { IfOk result (λ loaded. HasAll loaded (names_of_all file.now.jobs)) }
-    ensures err { IfErr result (λ fault. TextsStop (texts_to_load file.now) (T.source texts.old) fault (T.source texts.new)) }
+    ensures err { IfErr result (λ fault.
+        TextsStop (texts_to_load file.now) (T.source texts.old) fault (T.source texts.new)) }
 {
     let mut shelf = Shelf {
         loaded: Loaded::new(alloc),

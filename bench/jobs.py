@@ -1,12 +1,14 @@
 #!/usr/bin/env python3
 """Times `qtc run` and `qtc check` over whole job files beside other programs, in one run.
 
-    bench/jobs.py [ROW ..]     all rows where none is named: contains, jobs, digests, parse
+    bench/jobs.py [ROW ..]     all rows where none is named: contains, report, jobs, digests, parse
 
 The text of `contains` and `jobs` has the numbers that bench/lines.py makes. Each figure is the best of five runs, from
 the start to the end of the process.
 
 - contains: `filter contains 77` over 1,000,000 lines beside `grep -F -c 77`, both to a pipe.
+- report: what forming and writing the report costs a value: `map number` over 1,000,000 lines, less the same over one
+  more line that is no number, so that the job fails at its end and has no values to report.
 - jobs: 64 jobs over one text of 100,000 lines beside one job, both less the loading, which is the time of a job that
   makes one item of the whole text and gives its length.
 - digests: `map digest` over 63 lines of 1 MiB, less a run that gives their lengths, beside `qtc_bench digest`, which
@@ -49,6 +51,17 @@ def contains(folder):
     grep = to_a_pipe(["grep", "-F", "-c", "77", "t"], folder)
     _, peak = measure([QTC, "run", "j"], folder)
     show("filter contains 77", f"{ours:.3f} s, {peak} KB, {ours / grep:.2f} of grep's {grep:.3f} s")
+
+
+def report(folder):
+    count = 1_000_000
+    make_text(os.path.join(folder, "t"), count)
+    Path(folder, "bad").write_text(Path(folder, "t").read_text() + "x\n")
+    Path(folder, "whole").write_text("job a\ninput lines t\nmap number\n")
+    Path(folder, "fails").write_text("job a\ninput lines bad\nmap number\n")
+    whole, _ = measure([QTC, "run", "whole"], folder)
+    fails, _ = measure([QTC, "run", "fails"], folder, status=1)
+    show("the report of 1,000,000 numbers", f"{(whole - fails) * 1e9 / count:.1f} ns a value, of {whole:.3f} s")
 
 
 def jobs(folder):
@@ -100,7 +113,7 @@ def parse(folder):
         show(f"check of {len(text)} bytes of {name}", f"{seconds:.3f} s")
 
 
-ROWS = {"contains": contains, "jobs": jobs, "digests": digests, "parse": parse}
+ROWS = {"contains": contains, "report": report, "jobs": jobs, "digests": digests, "parse": parse}
 
 
 def main():

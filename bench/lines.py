@@ -56,17 +56,17 @@ def make_text(path, count):
             text.write(f"{x}\n")
 
 
-def measure(words, folder):
-    """Seconds and peak kilobytes of the best of some runs."""
+def measure(words, folder, status=0):
+    """Seconds and peak kilobytes of the best of some runs that end with this status."""
     best = None
     for _ in range(RUNS):
         with open(os.devnull, "wb") as out:
             begin = time.perf_counter()
             child = subprocess.Popen(words, stdout=out, cwd=folder)
-            _, status, usage = os.wait4(child.pid, 0)
+            _, ended, usage = os.wait4(child.pid, 0)
             seconds = time.perf_counter() - begin
-        child.returncode = os.waitstatus_to_exitcode(status)
-        if child.returncode != 0:
+        child.returncode = os.waitstatus_to_exitcode(ended)
+        if child.returncode != status:
             sys.exit(f"bench: {words} ended with {child.returncode}")
         if best is None or seconds < best[0]:
             best = (seconds, usage.ru_maxrss)

@@ -1,9 +1,8 @@
 //! A count of changes that threads sleep on.
 use crate::count::Count;
+use crate::pauses::{PAUSES, pause};
 use crate::sleepers::Sleepers;
-use crate::spins::SPINS;
 use std::alloc::Global;
-use std::hint::spin_loop;
 use std::sync::Wait;
 
 /// A bell that is rung after each change of something that threads wait for, and on which they sleep between two looks.
@@ -44,11 +43,11 @@ impl Bell {
     /// Waits while the count is the one given: it pauses a few times, and then sleeps. It returns once the count differs,
     /// at once where it already does, and may return for no reason, so its caller looks again.
     pub fn sleep<R: Wait>(&self, rt: &R, count: u32) {
-        for _ in 0..SPINS {
+        for before in 0..PAUSES {
             if self.count() != count {
                 return;
             }
-            spin_loop();
+            pause(before);
         }
         self.sleepers.enter();
         self.rings.park(rt, count);

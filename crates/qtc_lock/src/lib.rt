@@ -23,9 +23,9 @@ mod bell;
 mod count;
 mod key;
 mod lock;
+mod pauses;
 mod rule;
 mod sleepers;
-mod spins;
 #[cfg(test)]
 mod tests;
 

@@ -2,12 +2,11 @@
 ghost use Rattle.std.specs.Prelude.{◌≡◌, true, [], ◌∷◌, IfOk, IfErr, None};
 
 use crate::key::{GhostKey, Keyed, Names};
+use crate::pauses::{PAUSES, pause};
 use crate::rule::{Law, Put, Try, View};
 use crate::sleepers::Sleepers;
-use crate::spins::SPINS;
 use atomic_table::{Refused, Seat, Table};
 use std::alloc::Global;
-use std::hint::spin_loop;
 use std::marker::Model;
 use std::sync::Wait;
 use std::sync::atomic::AtomicU64;
@@ -104,9 +103,9 @@ impl<S: Keyed> KeyLock<S> {
         requires { IsIdle self.now seat }
         ensures { HasValue S.fits self.now result }
     {
-        let mut rounds = 0;
+        let mut pauses = 0;
         for _ in rt.forever() {
-            rounds = self.back_off(rt, rounds);
+            pauses = self.back_off(rt, pauses);
             if self.table.shared.peek(0) == 0
                 && self.table.shared.swap::<Try>(&mut seat, 0, 1) == 0
             {
@@ -116,17 +115,17 @@ impl<S: Keyed> KeyLock<S> {
         unreachable!()
     }
 
-    // Pauses, and counts the pauses; after the last it sleeps, while the word is 1. Who has put a value back asks for
-    // sleepers after that, so either it finds this one, or this one finds the word 0.
-    fn back_off<R: Wait>(&self, rt: &R, rounds: u32) -> u32 {
-        if rounds < SPINS {
-            spin_loop();
-            return rounds + 1;
+    // Pauses, and counts the pauses; after the last it sleeps while the word is 1, and then counts anew. Who has put a
+    // value back asks for sleepers after that, so either it finds this one, or this one finds the word 0.
+    fn back_off<R: Wait>(&self, rt: &R, pauses: u32) -> u32 {
+        if pauses < PAUSES {
+            pause(pauses);
+            return pauses + 1;
         }
         self.sleepers.enter();
         self.table.shared.park(rt, 0, 1);
         self.sleepers.leave();
-        rounds
+        0
     }
 
     /// Gives the lock a value again, for whoever takes it next, and wakes one thread that sleeps in `take`. It takes no

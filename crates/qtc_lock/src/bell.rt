@@ -7,12 +7,12 @@ use std::sync::Wait;
 
 /// A bell that is rung after each change of something that threads wait for, and on which they sleep between two looks.
 ///
-/// Who waits reads the count, then looks at what it waits for, and sleeps on that count where it has to. Whoever makes a
-/// change rings after it. So a change that the look missed is rung after the count was read, and the sleep ends. It
-/// compares the low 32 bits of the number of rings: it misses rings whose number is a multiple of 2^32.
+/// Who waits reads the count, looks at what it waits for, and where it has to wait sleeps on that count. So a change that
+/// the look missed rings after the count was read, and the sleep ends. It compares the low 32 bits of the number of
+/// rings, and misses a number of rings that is a multiple of 2^32.
 ///
-/// Nothing is claimed of the count: no clause says how often it rang, or that a sleeper wakes. It is used as a
-/// `std::sync::Condvar` is, but without a lock. *Own.*
+/// Nothing of this is claimed: no clause says how often it rang, or that a sleeper wakes. It stands where a
+/// `std::sync::Condvar` would, for what changes without a lock. *Own.*
 #[derive(Drop)]
 pub struct Bell {
     rings: Count,

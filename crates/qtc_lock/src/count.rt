@@ -35,6 +35,7 @@ impl Count {
         self.table.shared.peek(0)
     }
 
+    // Each step has a seat of its own, since threads share the count by reference.
     pub(crate) fn raise(&self) {
         let (_, mut seat) = self.table.shared.load_new_seat::<Free>(0);
         self.table.shared.fetch_add::<Free>(&mut seat, 0, 1);

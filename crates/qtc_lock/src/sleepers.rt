@@ -5,11 +5,11 @@ use std::alloc::Global;
 /// A count of the threads that sleep on one word, beside that word.
 ///
 /// A thread enters, parks on the word as it last saw it, and leaves, however it came to wake. Who has changed the word
-/// asks afterwards whether any thread sleeps, and wakes where one does. No wake is lost, since every step is `SeqCst`:
-/// either the question comes after the sleeper entered, and then it is woken; or the change came before, and then
-/// parking finds another word and returns at once.
+/// asks afterwards whether any thread sleeps, and wakes where one does. Every step is `SeqCst`: so either the question
+/// comes after the sleeper entered, and finds it; or the change came before, and parking finds another word and returns
+/// at once.
 ///
-/// Nothing is claimed of the count: no clause says how many threads sleep, or that one wakes. *Own.*
+/// Nothing of this is claimed: no clause says how many threads sleep, or that one wakes. *Own.*
 #[derive(Drop)]
 pub struct Sleepers {
     asleep: Count,

@@ -8,6 +8,7 @@ use operations::print_operations;
 use std::process::ExitCode;
 use std::{env, io};
 use stores::{Order, print_filled, print_stores};
+use waits::{print_bell_wait, print_lock_wait};
 
 mod claims;
 mod digests;
@@ -17,6 +18,7 @@ mod stores;
 mod tables;
 mod texts;
 mod timing;
+mod waits;
 
 /// What can be asked for.
 const USAGE: &str = "\
@@ -26,6 +28,7 @@ usage: qtc_bench ops    the operations of jobs over 1000000 lines, ns an item
        qtc_bench store  a store of results, ns for an add and a get
        qtc_bench fill ascending|descending|shuffled    1000000 batches in a store
        qtc_bench claim  claims of 16 indexes beside a bare word, ns for a claim
+       qtc_bench wait lock|bell    a thread that waits for a second, ms
 ";
 
 fn main(rt: HostRuntime) -> io::Result<ExitCode> {
@@ -46,6 +49,8 @@ fn main(rt: HostRuntime) -> io::Result<ExitCode> {
         ("fill", Some("descending")) => print_filled(&rt, alloc, Order::Descending)?,
         ("fill", Some("shuffled")) => print_filled(&rt, alloc, Order::Shuffled)?,
         ("claim", None) => print_claims(&rt, alloc)?,
+        ("wait", Some("lock")) => print_lock_wait(&rt, alloc)?,
+        ("wait", Some("bell")) => print_bell_wait(&rt, alloc)?,
         _ => {
             eprint!(rt; "{USAGE}")?;
             return Ok(ExitCode::from(2));

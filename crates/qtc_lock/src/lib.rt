@@ -19,11 +19,17 @@
 //! Contracts see a `KeyLock` and a `Hold` as which lock it is (`table`, which no other lock has) and its `key`.
 #![tactic(auto)]
 
+mod bell;
+mod count;
 mod key;
 mod lock;
+mod pauses;
 mod rule;
+mod sleepers;
 #[cfg(test)]
 mod tests;
 
+pub use bell::Bell;
 pub use key::{Keyed, Names};
 pub use lock::{Hold, KeyLock};
+pub use sleepers::Sleepers;

@@ -2,21 +2,20 @@
 ghost use Rattle.std.specs.Prelude.{◌≡◌, true, [], ◌∷◌, IfOk, IfErr, None};
 
 use crate::key::{GhostKey, Keyed, Names};
+use crate::pauses::{PAUSES, pause};
 use crate::rule::{Law, Put, Try, View};
+use crate::sleepers::Sleepers;
 use atomic_table::{Refused, Seat, Table};
 use std::alloc::Global;
-use std::hint::spin_loop;
 use std::marker::Model;
 use std::sync::Wait;
-use std::thread::yield_now;
-
-// Pauses before a thread that waits begins to yield.
-const SPINS: u32 = 16;
+use std::sync::atomic::AtomicU64;
 
 /// A lock with one key for good. A value that is not `Drop` leaves it by `close`.
 #[derive(Drop)]
 pub struct KeyLock<S: Keyed> {
     table: Table<Option<S>, View<S::Key>, GhostKey<S::Key>, Law<S>, Global>,
+    sleepers: Sleepers,
 }
 
 impl<S: Keyed> Model for KeyLock<S> {
@@ -57,19 +56,22 @@ impl<S: Keyed> KeyLock<S> {
         ensures ok { IfOk result (λ lock. lock.key ≡ N.key) }
         ensures err { IfErr result (λ back. back ≡ value) }
     {
+        let Some(sleepers) = Sleepers::new(alloc) else {
+            return Err(value);
+        };
         let Ok(mut slots) = Vec::with_capacity(alloc, 1) else {
             return Err(value);
         };
         slots.push_reserved(Some(value));
         let key = GhostKey::named();
         match Table::new(alloc, &[0], slots, &key) {
-            Ok((table, _seat)) => Ok(KeyLock { table }),
+            Ok((table, _seat)) => Ok(KeyLock { table, sleepers }),
             Err(Refused { slots }) => Err(only(slots)),
         }
     }
 
-    /// The value, and the right to put one back. While the value is out, it pauses a few times and then yields, each
-    /// time before it looks again.
+    /// The value, and the right to put one back. While the value is out, it pauses a few times, looking again after each,
+    /// and then sleeps until a `put` wakes it.
     pub fn take<R: Wait>(&self, rt: &R) -> (S, Hold<S>)
         ensures fits { S.fits self.now.key result.0 }
         ensures hold { result.1 ≡ self.now }
@@ -101,9 +103,9 @@ impl<S: Keyed> KeyLock<S> {
         requires { IsIdle self.now seat }
         ensures { HasValue S.fits self.now result }
     {
-        let mut rounds = 0;
+        let mut pauses = 0;
         for _ in rt.forever() {
-            rounds = back_off(rounds);
+            pauses = self.back_off(rt, pauses);
             if self.table.shared.peek(0) == 0
                 && self.table.shared.swap::<Try>(&mut seat, 0, 1) == 0
             {
@@ -113,13 +115,30 @@ impl<S: Keyed> KeyLock<S> {
         unreachable!()
     }
 
-    /// Gives the lock a value again, for whoever takes it next. It takes no memory and waits for nobody.
+    // Pauses, and counts the pauses; after the last it sleeps while the word is 1, and then counts anew. Who has put a
+    // value back asks for sleepers after that, so either it finds this one, or this one finds the word 0.
+    fn back_off<R: Wait>(&self, rt: &R, pauses: u32) -> u32 {
+        if pauses < PAUSES {
+            pause(pauses);
+            return pauses + 1;
+        }
+        self.sleepers.enter();
+        self.table.shared.park(rt, 0, 1);
+        self.sleepers.leave();
+        0
+    }
+
+    /// Gives the lock a value again, for whoever takes it next, and wakes one thread that sleeps in `take`. It takes no
+    /// memory and waits for nobody; where nobody sleeps it makes no call of the system.
     pub fn put(&self, value: S, hold: Hold<S>)
         requires fits { S.fits self.now.key value }
         requires hold { hold ≡ self.now }
     {
         let Hold { seat } = hold;
         self.give(value, seat);
+        if self.sleepers.any() {
+            self.table.shared.wake_one(0);
+        }
     }
 
     // Lays the value into the slot, and gives the slot back. The seat that it answers shows that it did.
@@ -142,28 +161,18 @@ impl<S: Keyed> KeyLock<S> {
     pub fn close<R: Wait>(self, rt: &R) -> S
         ensures { S.fits self.key result }
     {
-        let KeyLock { table } = self;
+        let KeyLock { table, sleepers: _ } = self;
         let mut closed = table.close();
         if closed.word(0) == 0 {
             let value = closed.take(0).unwrap();
             closed.free();
             return value;
         }
+        let never = AtomicU64::new(0);
         for _ in rt.forever() {
-            yield_now();
+            never.park(rt, 0);
         }
         unreachable!()
-    }
-}
-
-// Pauses or yields, and counts the pauses.
-fn back_off(rounds: u32) -> u32 {
-    if rounds < SPINS {
-        spin_loop();
-        rounds + 1
-    } else {
-        yield_now();
-        rounds
     }
 }
 

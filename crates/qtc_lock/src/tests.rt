@@ -1,6 +1,7 @@
 ghost use Rattle.std.specs.Prelude.{◌≡◌, ◌+◌, ◌^◌, ◌<◌, IfOk};
 
 mod seated;
+mod waiting;
 
 use crate::{Hold, KeyLock, Keyed};
 use std::alloc::Global;

@@ -89,6 +89,8 @@ fn filled(alloc: Global, places: &[u32], filter: bool) -> io::Result<ResultStore
 enum Step<'a> {
     /// The values of its batch are made.
     Make(bool),
+    /// They are made, and live until all are.
+    Keep(bool),
     /// Its batch is added to a store.
     Add(bool),
     /// A value of its batch is read.
@@ -107,6 +109,7 @@ impl Work for Pass<'_> {
     fn run<R: Wait + Threads + Sync>(&self, _rt: &R) -> io::Result<u64> {
         match &self.step {
             Step::Make(filter) => make_all(self.alloc, self.places, *filter),
+            Step::Keep(filter) => keep_all(self.alloc, self.places, *filter),
             Step::Add(filter) => {
                 let store = filled(self.alloc, self.places, *filter)?;
                 Ok(u64::from(store.count()))
@@ -123,6 +126,15 @@ fn make_all(alloc: Global, places: &[u32], filter: bool) -> io::Result<u64> {
         all = all.wrapping_add(values(alloc, filter)?.len() as u64);
     }
     Ok(all)
+}
+
+/// The number of batches, the values of all of which live at once.
+fn keep_all(alloc: Global, places: &[u32], filter: bool) -> io::Result<u64> {
+    let mut all = Vec::with_capacity(alloc, places.len())?;
+    for _ in places {
+        all.push(values(alloc, filter)?)?;
+    }
+    Ok(all.len() as u64)
 }
 
 /// The sum of the first value of each batch.
@@ -157,6 +169,11 @@ fn print_rows<R: Clock + Print + Wait + Threads + Sync>(
         Row::new(
             "values made and freed",
             pass(&ascending, Step::Make(filter)),
+        ),
+        Row::beside(
+            0,
+            "values made and kept",
+            pass(&ascending, Step::Keep(filter)),
         ),
         Row::beside(0, "add, ascending", pass(&ascending, Step::Add(filter))),
         Row::beside(0, "add, descending", pass(&descending, Step::Add(filter))),

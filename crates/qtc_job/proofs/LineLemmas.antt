@@ -4,7 +4,7 @@ use Rattle.std.specs.List.{join_with_byte}
 use Rattle.qtc_job.specs.Canonical.{ended_line}
 use Rattle.qtc_job.specs.Tails.{tail, ended_lines}
 
-join-tail : (word : List ℕ) (words : List (List ℕ)) → join_with_byte 32 (word ∷ words) ≡ word ++ tail words
+pub join-tail : (word : List ℕ) (words : List (List ℕ)) → join_with_byte 32 (word ∷ words) ≡ word ++ tail words
 join-tail word [] = sym (append-nil word)
 join-tail word (next ∷ words) = ap (λ s. word ++ (32 ∷ s)) (join-tail next words)
 

@@ -82,7 +82,7 @@ refused text rest after line reader number f r e is =
     let first : first_bad [] 1 (lines_of text) ≡ open_bad reader.draft r.above (number + 1) (line_of line ∷ lines_of after) = r.bad ∙ ap (open_bad reader.draft r.above (number + 1)) (lines-next rest after line e) in
     refuses text f (subst (λ (o : Option (ℕ × ℕ)). IsFirst o f) (sym first) is)
 
-same_file : (a b : JobFile) → a.workers ≡ b.workers → a.jobs ≡ b.jobs → a ≡ b
+pub same_file : (a b : JobFile) → a.workers ≡ b.workers → a.jobs ≡ b.jobs → a ≡ b
 same_file a b p q =
     let with_workers : ℕ → JobFile = λ (n : ℕ). record { workers = n; jobs = a.jobs } in
     let with_jobs : List Job → JobFile = λ (j : List Job). record { workers = b.workers; jobs = j } in

@@ -99,10 +99,10 @@ least-le_contains codes code has = least-contains codes code has.0 has.1 has.2
 
 -- ---- the codes at a place, where other lines stand above the first one
 
-abbrev at : List Line → List Line → ℕ → List ℕ
+abbrev pub at : List Line → List Line → ℕ → List ℕ
 at above ls i = codes_on (reverse (take i ls) ++ above) (get_or ls i silent) (drop (suc i) ls)
 
-at-suc : (above : List Line) (l : Line) (ls : List Line) (i : ℕ) → at above (l ∷ ls) (suc i) ≡ at (l ∷ above) ls i
+pub at-suc : (above : List Line) (l : Line) (ls : List Line) (i : ℕ) → at above (l ∷ ls) (suc i) ≡ at (l ∷ above) ls i
 at-suc above l ls i =
     let e : reverse (take (suc i) (l ∷ ls)) ++ above ≡ reverse (take i ls) ++ (l ∷ above) = grind (arith, common_steps) in
     ap (λ a. codes_on a (get_or ls i silent) (drop (suc i) ls)) e
@@ -187,7 +187,7 @@ first-at above n (l ∷ ls) line code e = ⊎_elim
 
 -- ---- the law, in the words of the grammar
 
-codes-at : (ls : List Line) (line : ℕ) → 1 ≤ line → codes_at ls line ≡ at [] ls (line - 1)
+pub codes-at : (ls : List Line) (line : ℕ) → 1 ≤ line → codes_at ls line ≡ at [] ls (line - 1)
 codes-at ls line some =
     let e : suc (line - 1) ≡ line = omega arith in
     rw e (ap (λ above. codes_on above (get_or ls (line - 1) silent) (drop line ls)) (sym (append-nil (reverse (take (line - 1) ls)))))

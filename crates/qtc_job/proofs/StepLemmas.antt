@@ -32,7 +32,7 @@ use Rattle.qtc_job.specs.declared.refusals.Refusal.TheVariants as refusal
 use Rattle.qtc_job.proofs.DraftLemmas.{draft-silent, draft-says, stands-push_other}
 use Rattle.qtc_job.proofs.LeastLemmas.{least-append}
 
-chains-one : (own : List Line) → length (filter is_chain own) ≡ length (chain_of own)
+pub chains-one : (own : List Line) → length (filter is_chain own) ≡ length (chain_of own)
 chains-one [] = refl
 chains-one (too_long ∷ own) = chains-one own
 chains-one (silent ∷ own) = chains-one own

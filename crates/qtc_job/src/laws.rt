@@ -1,6 +1,6 @@
 //! What the definitions of this crate say in their subjects' own words.
 ghost use Rattle.std.specs.Prelude.{◌≡◌};
-ghost use Rattle.qtc_job.specs.Laws.{EachTextIsReadOrRefused, LinesAreReadOnce};
+ghost use Rattle.qtc_job.specs.Laws.{CanonicalTextsAreReadBack, EachTextIsReadOrRefused, FilesThatAreReadAreLawful, LinesAreReadOnce};
 ghost use Rattle.qtc_job.specs.Limits.{most_text};
 
 use crate::MOST_TEXT;
@@ -13,6 +13,16 @@ pub fn each_text_is_read_or_refused()
 /// No lines are read as two files.
 pub fn lines_are_read_once()
     ensures { LinesAreReadOnce }
+{}
+
+/// Each file that a text is read as keeps the ranges, and can be printed in short lines.
+pub fn files_that_are_read_are_lawful()
+    ensures { FilesThatAreReadAreLawful }
+{}
+
+/// The canonical text of each lawful file is read as that file, whatever its length.
+pub fn canonical_texts_are_read_back()
+    ensures { CanonicalTextsAreReadBack }
 {}
 
 /// The limit that callers test is the one that `parse` asks for.

@@ -22,7 +22,10 @@ mod words_of;
 mod words_out;
 
 pub use jobs::{BadJob, ChainOp, Input, Job, JobFile, ParseFault};
-pub use laws::{each_text_is_read_or_refused, lines_are_read_once, the_limit_of_a_text_is_told};
+pub use laws::{
+    canonical_texts_are_read_back, each_text_is_read_or_refused, files_that_are_read_are_lawful,
+    lines_are_read_once, the_limit_of_a_text_is_told,
+};
 pub use parsing::{MOST_TEXT, parse};
 pub use printing::print;
 

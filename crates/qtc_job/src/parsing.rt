@@ -6,6 +6,7 @@ ghost use Rattle.qtc_job.specs.Search.{settled};
 ghost use Rattle.qtc_job.specs.Codes.{own_below};
 ghost use Rattle.qtc_job.specs.Grammar.{Reads};
 ghost use Rattle.qtc_job.specs.Heads.{IsSeen};
+ghost use Rattle.qtc_job.specs.Lawful.{Lawful};
 ghost use Rattle.qtc_job.specs.Limits.{most_text};
 ghost use Rattle.qtc_job.specs.Lines.{Line, line_of, lines_of};
 ghost use Rattle.qtc_job.specs.Marks.{IsMarks};
@@ -92,6 +93,7 @@ fn settle(refusal: Refusal, number: u32, lines: Lines) -> ParseFault
 pub fn parse(alloc: Global, text: &[u8]) -> Result<JobFile, ParseFault>
     requires { length text.now ≤ most_text }
     ensures reads { IfOk result (Reads (lines_of text.now)) }
+    ensures lawful { IfOk result Lawful }
     ensures refuses { IfErr result (Refuses text.now) }
 {
     let mut reader = Reader::new(alloc);

@@ -1,5 +1,6 @@
 use Rattle.std.proofs.Common.{◌+◌, arith}
 use Rattle.qtc_job.specs.Lines.{line_of}
+use Rattle.qtc_job.proofs.LawfulLaws.{ok-lawful}
 use Rattle.qtc_job.proofs.ParseLemmas.{number-few, refused, ends-reads, ends-refuses}
 use Rattle.qtc_job.proofs.parsing.parse.Goals as goal
 
@@ -22,3 +23,6 @@ pub returns-clause-refuses : goal.returns-clause-refuses
 returns-clause-refuses c =
     let r = c.loop-line.invariant in
     ends-refuses c.args.text.now c.loop-line.lines c.loop-line.reader c.loop-line.number c.finish.result r c.in_default.ensures.steps.0 (c.finish.ensures r.above (c.loop-line.number + 1) r.is)
+
+pub returns-clause-lawful : goal.returns-clause-lawful
+returns-clause-lawful c = ok-lawful c.args.text.now c.finish.result (returns-clause-reads c)

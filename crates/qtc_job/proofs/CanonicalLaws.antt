@@ -13,7 +13,7 @@ use Rattle.qtc_job.specs.Lawful.{IsJob, Lawful}
 use Rattle.qtc_job.specs.Lines.{workers, line_of_words, lines_of}
 use Rattle.qtc_job.specs.Meaning.{file_of}
 use Rattle.qtc_job.proofs.CutLemmas.{lines-whole}
-use Rattle.qtc_job.proofs.FileBackLemmas.{AreJobs, jobs-read, lines_said}
+use Rattle.qtc_job.proofs.CanonicalFiles.{AreJobs, jobs-read, lines_said}
 use Rattle.qtc_job.proofs.GoodLemmas.{good-reads}
 use Rattle.qtc_job.proofs.NumberLemmas.{number-read, number-numeral, number-within}
 use Rattle.qtc_job.proofs.ParseLemmas.{same_file}

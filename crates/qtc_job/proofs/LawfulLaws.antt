@@ -24,13 +24,13 @@ use Rattle.qtc_job.specs.Lawful.{IsJob, IsWithin, Lawful}
 use Rattle.qtc_job.specs.Lines.{Line, too_long, silent, unknown, workers, job, says, lines_of}
 use Rattle.qtc_job.specs.Literals.{is_name}
 use Rattle.qtc_job.specs.Meaning.{chain_of, file_of, job_of, jobs_of, workers_of}
-use Rattle.qtc_job.proofs.FileBackLemmas.{AreJobs}
+use Rattle.qtc_job.proofs.CanonicalFiles.{AreJobs}
 use Rattle.qtc_job.proofs.GoodLemmas.{AreGood, reads-good}
 use Rattle.qtc_job.proofs.NumberLemmas.{number-size}
-use Rattle.qtc_job.proofs.OwnLemmas.{AreOwnGood, AreShort, job-own, short-append, two-short}
+use Rattle.qtc_job.proofs.LawfulJobs.{AreOwnGood, AreShort, job-own, short-append, two-short}
 use Rattle.qtc_job.proofs.PlaceLemmas.{append-none, where-none}
 use Rattle.qtc_job.proofs.StepLemmas.{chains-one}
-use Rattle.qtc_job.proofs.SaidLemmas.{job-said, workers-said}
+use Rattle.qtc_job.proofs.LawfulLines.{job-said, workers-said}
 use Rattle.qtc_job.proofs.SourceLemmas.{AreFromText, lines-sourced}
 
 -- ---- one line

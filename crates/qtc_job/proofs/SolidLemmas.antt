@@ -29,7 +29,7 @@ use Rattle.qtc_job.specs.Keywords.{spelling}
 use Rattle.qtc_job.specs.Lawful.{IsText, IsInput, IsPredicate, IsOp, IsFold, IsStep, IsWithin, IsJob, Lawful}
 use Rattle.qtc_job.specs.Literals.{is_name, is_name_byte}
 use Rattle.qtc_job.proofs.CutLemmas.{IsSolid, AreSolid, AreWhole}
-use Rattle.qtc_job.proofs.FileBackLemmas.{AreJobs}
+use Rattle.qtc_job.proofs.CanonicalFiles.{AreJobs}
 use Rattle.qtc_job.proofs.NumberLemmas.{number-solid, priority-solid}
 
 -- ---- words

@@ -24,8 +24,8 @@ use Rattle.qtc_job.specs.Meaning.{fold_meant, order_meant, number_at, word_at}
 use Rattle.qtc_job.specs.Literals.{priority_of}
 use Rattle.qtc_job.proofs.DraftLemmas.{kept-isnt}
 use Rattle.qtc_job.proofs.PlaceLemmas.{AreApart}
-use Rattle.qtc_job.proofs.ReadBackLemmas.{fold-read, order-read, order_args, list-read, text-said, blocks-read, priority-said, after-read}
-use Rattle.qtc_job.proofs.GoesLemmas.{Goes, goes-none, goes-map, goes-says, no-chain, draft_of, goes-input, goes-op, map_of, filter_of}
+use Rattle.qtc_job.proofs.CanonicalLines.{fold-read, order-read, order_args, list-read, text-said, blocks-read, priority-said, after-read}
+use Rattle.qtc_job.proofs.CanonicalSteps.{Goes, goes-none, goes-map, goes-says, no-chain, draft_of, goes-input, goes-op, map_of, filter_of}
 
 abbrev pub order_of : Option FoldOp → Bool → Option Bool
 order_of None ordered = None

@@ -27,7 +27,7 @@ use Rattle.qtc_job.proofs.DraftLemmas.{draft-says, kept-isnt}
 use Rattle.qtc_job.proofs.StepLemmas.{above-none}
 use Rattle.qtc_job.proofs.GoodLemmas.{AreGood}
 use Rattle.qtc_job.proofs.PlaceLemmas.{AreApart}
-use Rattle.qtc_job.proofs.ReadBackLemmas.{input-read, map-read, filter-read, filter_words}
+use Rattle.qtc_job.proofs.CanonicalLines.{input-read, map-read, filter-read, filter_words}
 
 -- these lines below those, nearest first
 abbrev pub down : List Line → List Line → List Line

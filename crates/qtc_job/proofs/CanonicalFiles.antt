@@ -19,10 +19,10 @@ use Rattle.qtc_job.specs.Lawful.{IsJob}
 use Rattle.qtc_job.specs.Lines.{Line, too_long, silent, unknown, workers, job, says, is_job, line_of_words}
 use Rattle.qtc_job.specs.Meaning.{job_of, jobs_of, place_of}
 use Rattle.qtc_job.proofs.JobLemmas.{good, job-is}
-use Rattle.qtc_job.proofs.GoesLemmas.{down, IsAt, map_of, filter_of}
+use Rattle.qtc_job.proofs.CanonicalSteps.{down, IsAt, map_of, filter_of}
 use Rattle.qtc_job.proofs.GoodLemmas.{AreGood}
 use Rattle.qtc_job.proofs.PlaceLemmas.{AreApart, exactly-one_none, name-none, name-found}
-use Rattle.qtc_job.proofs.SegmentLemmas.{begun, ended_draft, goes-job, order_of, count_of}
+use Rattle.qtc_job.proofs.CanonicalJobs.{begun, ended_draft, goes-job, order_of, count_of}
 
 -- ---- lines of one job below its job line
 
@@ -69,7 +69,7 @@ jobs-up names (l ∷ ls) rest none =
 
 -- ---- one job
 
-job-at : (above : List Line) (names named : _) → names_above above ≡ names → IsAt names (job (named ∷ []) ∷ above) (begun named)
+job-at : (above : List Line) (names : List (List ℕ)) (named : List ℕ) → names_above above ≡ names → IsAt names (job (named ∷ []) ∷ above) (begun named)
 job-at above names named e = record {
   in_job = refl;
   earlier = e;

@@ -24,7 +24,7 @@ use Rattle.qtc_job.specs.Tails.{tail}
 use Rattle.qtc_job.proofs.KeywordLemmas.{spelling-same}
 use Rattle.qtc_job.proofs.NumberLemmas.{number-size, priority-size}
 use Rattle.qtc_job.proofs.PlaceLemmas.{append-none, where-none}
-use Rattle.qtc_job.proofs.SaidLemmas.{tail-size, input-said, map-said, filter-said, fold-said, list-said, failed-said, canceled-said, blocks-said, priority-said, cancel-said, suspend-said}
+use Rattle.qtc_job.proofs.LawfulLines.{tail-size, input-said, map-said, filter-said, fold-said, list-said, failed-said, canceled-said, blocks-said, priority-said, cancel-said, suspend-said}
 use Rattle.qtc_job.proofs.SourceLemmas.{IsSourced, join-size}
 
 -- ---- the lines of a job

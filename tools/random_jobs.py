@@ -217,10 +217,10 @@ def some_file(rng):
     lines, names = [], []
     if rng.random() < 0.3:
         lines.append(some_line(rng, b"workers", []))
-    for _ in range(rng.choice([0, 1, 2, 3, 3, 66])):
+    for _ in range(rng.choice([0, 1, 1, 2, 2, 3, 3, 3, 64, 66])):
         name = some_word(rng, (NEW,), [])
-        if name in names:
-            continue
+        while name in names:
+            name = some_word(rng, (NEW,), [])
         own = [b"input", rng.choice([b"map", b"filter"])]
         if rng.random() < 0.4:
             own += [b"reduce"] + [b"order"] * rng.randint(0, 1)

@@ -1,0 +1,6 @@
+-- What an engine works on, what it does, and what follows.
+pub mod Workload
+pub mod Machine
+pub mod Runs
+pub mod Laws
+pub mod Driving

@@ -1,18 +1,16 @@
 -- What an engine that one worker drives comes to. (Own.)
-use Rattle.std.specs.Prelude.{◌≡◌, ◌<◌, ◌≤◌, ℕ, Bool, true, false, List, [], ◌∷◌, ◌++◌, All, length, take}
-use Rattle.std.specs.List.{range_with_len}
-use Rattle.qtc_events.specs.declared.calls.Call.TheVariants.{Start, Finish}
+use Rattle.std.specs.Prelude.{◌≡◌, ◌≤◌, ◌%◌, ℕ, Bool, true, false, List, [], ◌∷◌, ◌++◌, All, IsTrue, Some, length, map, slice_index, take}
+use Rattle.std.specs.List.{flat_map, range_with_len}
+use Rattle.qtc_events.specs.declared.calls.Call.TheVariants.{Start, Report, Fail, Finish}
 use Rattle.qtc_events.specs.declared.calls.Call.{Call}
 use Rattle.qtc_events.specs.declared.entries.Entry.{Entry}
 use Rattle.qtc_events.specs.declared.entries.Reached.TheVariants.{Nothing}
-use Rattle.qtc_future.specs.Future.{Future, failure_of, flags_of, journal_of}
-use Rattle.qtc_future.specs.declared.replies.Failure.{Failure}
-use Rattle.qtc_kernel.specs.Machine.{Engine, Event, Mode, new_engine, run_of}
+use Rattle.qtc_future.specs.Future.{Future, failure_of, journal_of}
+use Rattle.qtc_kernel.specs.Machine.{Engine, Event, Mode, claim, new_engine, run_of}
 use Rattle.qtc_kernel.specs.Runs.{AreInTime, HasSize, IsThrough}
 use Rattle.qtc_kernel.specs.Workload.{Workload, bad_indexes, item_at, worked_on}
 use Rattle.qtc_kernel.specs.declared.kinds.Kind.{Kind}
 use Rattle.qtc_kernel.specs.declared.kinds.Kind.TheVariants.{Mapped, Filtered}
-use Rattle.std.specs.Prelude.{Some}
 
 abbrev pub is_filter : Kind → Bool
 is_filter Mapped = false
@@ -32,10 +30,41 @@ plain_mode kind = record { filter = is_filter kind; cancel_after = 0; suspend_af
 abbrev pub own_entry : Call → Entry
 own_entry call = record { caller = 0; call = call; reached = Nothing }
 
--- the first entry is the start, and the last the finish
+abbrev pub is_result : Call → Bool
+is_result (Report begin kept total) = true
+is_result (Fail index) = true
+is_result _ = false
+
+-- a report or a failure of caller 0
+pub record IsOwnResult (entry : Entry) : Type 0 where
+  pub own : entry.caller ≡ 0
+  pub result : IsTrue (is_result entry.call)
+
+-- the first entry is the start, the last the finish, and between them stand results alone
 pub record IsOpenedAndClosed (journal : List Entry) : Type 0 where
   pub between : List Entry
   pub whole : journal ≡ own_entry Start ∷ between ++ own_entry Finish ∷ []
+  pub results : All IsOwnResult between
+
+-- ---- blocks
+
+abbrev pub claim_size : Event → List ℕ
+claim_size (claim size) = size ∷ []
+claim_size _ = []
+
+-- the sizes of the claims, in order
+abbrev pub claim_sizes : List Event → List ℕ
+claim_sizes events = flat_map claim_size events
+
+-- so many of the sizes, in turn, over and over
+abbrev pub in_turn : List ℕ → ℕ → List ℕ
+in_turn sizes count = map (λ turn. slice_index sizes (turn % length sizes)) (range_with_len 0 count)
+
+-- the claims have the sizes of the list, from the first on, over and over
+abbrev pub TakesTurns : List ℕ → List Event → Type 0
+TakesTurns sizes events = claim_sizes events ≡ in_turn sizes (length (claim_sizes events))
+
+-- ---- the run
 
 -- all was taken where no item is bad; else the future keeps the first bad one
 abbrev pub EndsWith : Workload → List ℕ → Engine → Type 0
@@ -48,6 +77,7 @@ pub record IsDriven (work : Workload) (kind : Kind) (sizes : List ℕ) (future :
   pub events : List Event
   pub ran : future ≡ (run_of work (plain_mode kind) events).future
   pub blocks : All (HasSize sizes) events
+  pub turns : TakesTurns sizes events
   pub in_time : AreInTime work (new_engine (is_filter kind) 0 0) events
   pub called : (run_of work (plain_mode kind) events).called ≡ range_with_len 0 (worked_on work (bad_indexes work))
   pub ends : EndsWith work (bad_indexes work) (run_of work (plain_mode kind) events)

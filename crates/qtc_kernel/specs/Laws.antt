@@ -1,5 +1,5 @@
 -- What follows for every list of events, in any order. (Own.)
-use Rattle.std.specs.Prelude.{◌≡◌, ◌+◌, ◌<◌, ◌≤◌, ℕ, Bool, true, false, min, List, [], ◌∷◌, All, Some, IsTrue}
+use Rattle.std.specs.Prelude.{◌≡◌, ◌<◌, ◌≤◌, ℕ, min, List, [], All, Some, IsTrue}
 use Rattle.qtc_base.specs.Ranges.{Tiles, times_covered}
 use Rattle.qtc_store.specs.Stored.{IsFirstResults}
 use Rattle.qtc_future.specs.Future.{failure_of, flags_of, reports_of, results_of}

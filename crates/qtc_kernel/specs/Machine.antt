@@ -1,10 +1,10 @@
 -- What an engine does, event by event, without threads: whoever works on it claims ranges of indexes, calls the function
 -- on each index of a range, and reports what it kept, or that an item was bad. (After Qt's IterateKernel; own.)
 use Rattle.std.specs.Prelude.{ℕ, ◌+◌, ◌-◌, ◌==◌, ◌&&◌, nat_le, nat_lt, not, Bool, true, false, if◌then◌else◌, List, [], ◌∷◌, ◌++◌, filter, fold, is_none, Option, Some, None}
-use Rattle.std.specs.List.{list_any, range_with_len}
+use Rattle.std.specs.List.{list_any}
 use Rattle.qtc_base.specs.Ranges.{clip}
 use Rattle.qtc_future.specs.Future.{Future, new_future}
-use Rattle.qtc_future.specs.Steps.{Told, Accepted, Effect, Counted, Dropped, Taken, PastEnd, Stepped, step}
+use Rattle.qtc_future.specs.Steps.{Told, Accepted, Stepped, step}
 use Rattle.qtc_future.specs.declared.requests.Request.{Request}
 use Rattle.qtc_future.specs.declared.requests.Request.TheVariants as request
 use Rattle.qtc_kernel.specs.Workload.{Workload, first_bad, indexes_of, item_at, size_of, texts_in}

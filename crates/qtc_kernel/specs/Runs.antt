@@ -1,16 +1,10 @@
 -- What is said of an engine after a list of events. (Own.)
-use Rattle.std.specs.Prelude.{◌≡◌, ◌≢◌, ◌+◌, ◌-◌, ◌<◌, ◌≤◌, ◌⊎◌, ℕ, Bool, true, false, List, [], ◌∷◌, ◌++◌, All, Contains, Option, Some, None, IsTrue, map, filter, length, count_by, ◌==◌}
-use Rattle.qtc_base.specs.Ranges.{Tiles, times_covered}
-use Rattle.qtc_events.specs.declared.calls.Call.TheVariants.{Start as StartCall, Finish as FinishCall}
-use Rattle.qtc_events.specs.declared.entries.Entry.{Entry}
-use Rattle.qtc_events.specs.declared.entries.Reached.TheVariants.{Nothing}
-use Rattle.qtc_events.specs.declared.calls.Call.{Call}
+use Rattle.std.specs.Prelude.{◌≡◌, ◌+◌, ◌<◌, ◌≤◌, ◌⊎◌, ℕ, Bool, true, false, List, [], ◌∷◌, ◌++◌, Contains, map, filter, count_by, ◌==◌}
 use Rattle.qtc_store.specs.Batches.{end_of}
 use Rattle.qtc_store.specs.declared.batch.Batch.{Batch}
-use Rattle.qtc_future.specs.Future.{Future, Logged, failure_of, flags_of, journal_of, reports_of}
-use Rattle.qtc_future.specs.declared.replies.Failure.{Failure}
-use Rattle.qtc_kernel.specs.Machine.{Engine, Event, Fate, Mode, Settled, accepted, after, ask, claim, fail, failed, look, report, run_of}
-use Rattle.qtc_kernel.specs.Workload.{Workload, bad_indexes, item_at, size_of, texts_in, worked_on, indexes_of}
+use Rattle.qtc_future.specs.Future.{Future, flags_of, reports_of}
+use Rattle.qtc_kernel.specs.Machine.{Engine, Event, Fate, accepted, after, claim, fail, report}
+use Rattle.qtc_kernel.specs.Workload.{Workload, size_of, texts_in}
 
 -- ---- ranges
 

@@ -3,7 +3,6 @@ use Rattle.std.specs.Prelude.{◌≡◌, ◌≢◌, ℕ, ◌+◌, ◌-◌, Bool,
 use Rattle.std.specs.List.{find, range_with_len}
 use Rattle.qtc_ops.specs.ItemValue.{ItemValue, kept, dropped, bad}
 use Rattle.qtc_ops.specs.Kept.{pairs, pairs_between, texts, fails}
-use Rattle.qtc_ops.specs.Laws.{value_at}
 
 -- items in order, and what a function makes of each
 pub record Workload : Type 0 where

@@ -10,7 +10,8 @@ mod one_worker;
 
 pub use kinds::Kind;
 pub use laws::{
-    accepted_batches_are_right, failures_are_bad_items, futures_are_legal, no_index_is_called_twice,
-    nothing_is_taken_after_cancel, ranges_are_blocks, ranges_tile, whole_runs_are_sequential,
+    accepted_batches_are_right, failures_are_bad_items, futures_are_legal,
+    no_index_is_called_twice, nothing_is_taken_after_cancel, ranges_are_blocks, ranges_tile,
+    whole_runs_are_sequential,
 };
 pub use one_worker::run_one;

@@ -1,0 +1,9 @@
+pub mod Counting
+pub mod Finding
+pub mod Counted
+pub mod Blocks
+pub mod Kept
+pub mod Asking
+pub mod Sound
+pub mod Tiled
+pub mod Whole

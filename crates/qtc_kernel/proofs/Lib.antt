@@ -1,9 +1,14 @@
 pub mod Counting
 pub mod Finding
 pub mod Counted
-pub mod Blocks
+pub mod Lengths
 pub mod Kept
 pub mod Asking
 pub mod Sound
 pub mod Tiled
 pub mod Whole
+pub mod OneBlock
+pub mod Turns
+pub mod Calm
+pub mod Underway
+pub mod BlockSteps

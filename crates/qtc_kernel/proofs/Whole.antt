@@ -193,7 +193,7 @@ fails_bad (kept text) e = absurd (cc)
 fails_bad dropped e = absurd (cc)
 fails_bad bad e = refl
 
-none_fails : (work : Workload) → ((index : ℕ) → index < size_of work → is_bad (work.value (item_at work index)) ≡ false) → bad_indexes work ≡ []
+pub none_fails : (work : Workload) → ((index : ℕ) → index < size_of work → is_bad (work.value (item_at work index)) ≡ false) → bad_indexes work ≡ []
 none_fails work good = empty_from (bad_indexes work) (λ index c.
     let found = (fails-contain work.value (λ text. false) work.items index).0 c in
     false≢true (sym (good index found.0) ∙ fails_bad (work.value (item_at work index)) found.1))

@@ -4,3 +4,4 @@ pub mod Machine
 pub mod Runs
 pub mod Laws
 pub mod Driving
+pub mod Inside

@@ -4,6 +4,7 @@
 //! hold for every list of events.
 #![tactic(auto)]
 
+mod blocks;
 mod kinds;
 mod laws;
 mod one_worker;

@@ -1,13 +1,22 @@
-ghost use Rattle.std.specs.Prelude.{◌≡◌, ◌++◌, IfOk, OnOk, OnErr};
+ghost use Rattle.std.specs.Prelude.{◌≡◌, ◌+◌, ◌<◌, ◌++◌, IfOk, OnOk, OnErr, cond, nat_lt};
 ghost use Rattle.qtc_kernel.specs.Driving.{AreSizes, CallsFront, IsDriven, called_by, is_filter};
 ghost use Rattle.qtc_kernel.specs.Workload.{Suits, workload};
 
 use crate::Kind;
-use qtc_base::{Bytes, Items, NoMemory};
+use crate::blocks::{Block, block_end, block_values};
+use qtc_base::{Bytes, Items, NoMemory, Range};
 use qtc_future::FutureCore;
 use qtc_ops::ItemFn;
 use qtc_outside::Gate;
 use std::alloc::Global;
+
+/// The place after `turn` in a list of so many, over and over.
+fn next_turn(turn: usize, len: usize) -> usize
+    requires { turn < len }
+    ensures { result ≡ cond (nat_lt (turn + 1) len) (turn + 1) 0 }
+{
+    if turn + 1 < len { turn + 1 } else { 0 }
+}
 
 /// Drives the engine on this thread: it starts a future of caller 0, takes blocks from the first index on by the list of
 /// sizes, over and over, calls the function on each index of a block, entering the gate with `job` and the index just
@@ -31,5 +40,27 @@ pub fn run_one<F: ItemFn, G: Gate>(
     ensures front { OnErr result (CallsFront (F.called function.old)
         (called_by (workload items.now (F.value function.old))) (F.called function.new)) }
 {
-    Err(NoMemory)
+    let mut core = FutureCore::new(alloc, kind.is_filter(), 0, 0)?;
+    core.start(0);
+    let mut begin = 0;
+    let mut turn = 0;
+    while begin < items.len() {
+        let end = block_end(begin, sizes[turn], items.len());
+        let block = Range { begin, end };
+        match block_values(alloc, kind, items, job, block, function, gate)? {
+            Block::Kept(values) => {
+                core.report_batch(0, begin, values, end - begin)?;
+            }
+            Block::Bad(index) => {
+                let item = Bytes::from_slice(alloc, items.get(index).unwrap())?;
+                core.fail(0, index, item);
+                core.finish(0);
+                return Ok(core);
+            }
+        }
+        begin = end;
+        turn = next_turn(turn, sizes.len());
+    }
+    core.finish(0);
+    Ok(core)
 }

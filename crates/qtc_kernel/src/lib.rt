@@ -8,6 +8,8 @@ mod blocks;
 mod kinds;
 mod laws;
 mod one_worker;
+#[cfg(test)]
+mod tests;
 
 pub use kinds::Kind;
 pub use laws::{

@@ -1,10 +1,12 @@
-ghost use Rattle.std.specs.Prelude.{◌≡◌, ◌+◌, ◌<◌, ◌++◌, IfOk, OnOk, OnErr, cond, nat_lt};
+ghost use Rattle.std.specs.Prelude.{◌≡◌, ◌+◌, ◌-◌, ◌<◌, ◌≤◌, ◌++◌, false, [], IfOk, OnOk, OnErr, cond, nat_lt, length, slice_index_or};
+ghost use Rattle.qtc_future.specs.Steps.{step};
+ghost use Rattle.qtc_future.specs.declared.requests.Request.TheVariants as request;
 ghost use Rattle.qtc_kernel.specs.Driving.{AreSizes, CallsFront, IsDriven, called_by, is_filter};
 ghost use Rattle.qtc_kernel.specs.Workload.{Suits, workload};
 
 use crate::Kind;
 use crate::blocks::{Block, block_end, block_values};
-use qtc_base::{Bytes, Items, NoMemory, Range};
+use qtc_base::{Bytes, Items, List, NoMemory, Range};
 use qtc_future::FutureCore;
 use qtc_ops::ItemFn;
 use qtc_outside::Gate;
@@ -16,6 +18,33 @@ fn next_turn(turn: usize, len: usize) -> usize
     ensures { result ≡ cond (nat_lt (turn + 1) len) (turn + 1) 0 }
 {
     if turn + 1 < len { turn + 1 } else { 0 }
+}
+
+/// Reports what was kept of a block. Err is want of memory.
+fn report(core: &mut FutureCore<Bytes>, block: Range, values: List<Bytes>) -> Result<(), NoMemory>
+    requires few { length values ≤ block.end - block.begin }
+    requires whole { core.old.filter ≡ false → length values ≡ block.end - block.begin }
+    ensures { let asked = request.ReportBatch block.begin values (block.end - block.begin) in
+        OnOk result (core.new ≡ (step core.old 0 asked).future) }
+{
+    core.report_batch(0, block.begin, values, block.end - block.begin)?;
+    Ok(())
+}
+
+/// Lets the future fail with the item at `index`, of which it takes a copy. Err is want of memory.
+fn fail(
+    alloc: Global,
+    core: &mut FutureCore<Bytes>,
+    items: &Items,
+    index: u32,
+) -> Result<(), NoMemory>
+    requires { index < length items.now }
+    ensures { let asked = request.Fail index (slice_index_or items.now index []) in
+        OnOk result (core.new ≡ (step core.old 0 asked).future) }
+{
+    let item = items.get(index).unwrap();
+    core.fail(0, index, Bytes::from_slice(alloc, item)?);
+    Ok(())
 }
 
 /// Drives the engine on this thread: it starts a future of caller 0, takes blocks from the first index on by the list of
@@ -48,12 +77,9 @@ pub fn run_one<F: ItemFn, G: Gate>(
         let end = block_end(begin, sizes[turn], items.len());
         let block = Range { begin, end };
         match block_values(alloc, kind, items, job, block, function, gate)? {
-            Block::Kept(values) => {
-                core.report_batch(0, begin, values, end - begin)?;
-            }
+            Block::Kept(values) => report(&mut core, block, values)?,
             Block::Bad(index) => {
-                let item = Bytes::from_slice(alloc, items.get(index).unwrap())?;
-                core.fail(0, index, item);
+                fail(alloc, &mut core, items, index)?;
                 core.finish(0);
                 return Ok(core);
             }

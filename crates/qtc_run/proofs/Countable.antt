@@ -1,7 +1,7 @@
 -- The jobs of a file that was read are few, its lists of files are short, and its pieces have a byte.
-use Rattle.std.proofs.Common.{◌≡◌, ℕ, zero, suc, ◌+◌, ◌-◌, ◌<◌, ◌≤◌, Bool, true, false, cond, ltb, leb, List, [], ◌∷◌, ◌++◌, length, map, take, drop, get_or, Option, Some, None, refl, ap, sym, subst, ◌∙◌, append_assoc, append-nil, ⊎_elim, arith}
+use Rattle.std.proofs.Common.{◌≡◌, ℕ, zero, suc, ◌+◌, ◌-◌, ◌<◌, ◌≤◌, Bool, true, false, cond, eqb, ltb, leb, List, [], ◌∷◌, ◌++◌, length, map, take, drop, get_or, Option, Some, None, refl, ap, sym, subst, ◌∙◌, append_assoc, append-nil, ⊎_elim, arith}
 use Rattle.std.specs.Prelude.{All, Contains, ◌&&◌, not, reverse}
-use Rattle.std.proofs.lemmas.List.{reverse-reverse}
+use Rattle.std.proofs.lemmas.List.{reverse-reverse, length-map, take_all}
 use Rattle.std.specs.List.{flat_map}
 use Rattle.std.specs.Str.{bytes_eq}
 use Rattle.std.proofs.lemmas.Bool.{cases_Bool, and_parts, leb-true, true≢false}
@@ -14,13 +14,14 @@ use Rattle.qtc_job.specs.declared.jobs.Job.{Job}
 use Rattle.qtc_job.specs.declared.jobs.JobFile.{JobFile}
 use Rattle.qtc_job.specs.declared.keywords.Keyword.{Keyword}
 use Rattle.qtc_job.specs.declared.keywords.Keyword.TheVariants as word
-use Rattle.qtc_job.specs.Codes.{codes_on, own_codes, job_codes, own_below, above_codes, form_codes, word_codes, where_, names_above, name_of, is_no_number, is_out_of_range, is_repeated, repeats_a_name, is_a_job_too_many}
+use Rattle.qtc_job.specs.Codes.{codes_on, own_codes, job_codes, own_below, above_codes, form_codes, word_codes, where_, names_above, name_of, stands, is_no_number, is_out_of_range, is_repeated, repeats_a_name, is_a_job_too_many}
 use Rattle.qtc_job.specs.Forms.{Place, number, literal, chosen, input_form, directive_form, job_form}
 use Rattle.qtc_job.specs.Grammar.{IsBad, Reads, codes_at}
 use Rattle.qtc_job.specs.Keywords.{keyword_of, spelling}
 use Rattle.qtc_job.specs.Lines.{Line, too_long, silent, unknown, workers, job, says, is_job}
 use Rattle.qtc_job.specs.Literals.{is_numeral, is_within}
 use Rattle.qtc_job.specs.Meaning.{input_kind, input_meant, args_of, jobs_of, job_of}
+use Rattle.qtc_kernel.specs.Driving.{AreSizes}
 use Rattle.qtc_run.specs.Sums.{IsSized, IsCountable}
 
 -- each line has no code, where these lines stand above the first
@@ -156,9 +157,92 @@ few-jobs names above (job args ∷ ls) good few =
     let there = few-jobs (names ++ name_of args ∷ []) (job args ∷ above) ls good.1 (omega arith) in
     omega arith
 
+-- ---- the sizes of blocks
+
+number-most : (names : List (List ℕ)) (least most : ℕ) (text : List ℕ) → word_codes names (number least most) text ≡ [] → number_of text ≤ most
+number-most names least most text e =
+    let first = where-then_none (is_no_number (number least most) text) 3 _ e in
+    let second = where-then_none (is_out_of_range (number least most) text) 4 _ first.1 in
+    let numeral = not-false (is_numeral text) first.0 in
+    let within = within-of (is_numeral text) (is_within least most text) numeral second.0 in
+    leb-true (number_of text) most (and_parts (leb least (number_of text)) (leb (number_of text) most) within).1
+
+abbrev size_place : List ℕ → Place × List ℕ
+size_place word = (number 1 65536, word)
+
+least-sizes : (names args : List (List ℕ)) → flat_map (λ p. word_codes names p.0 p.1) (map size_place args) ≡ [] → All (λ size. 1 ≤ size) (map number_of args)
+least-sizes names [] e = All-nil (λ size. 1 ≤ size)
+least-sizes names (text ∷ args) e =
+    let parts = nil-parts (word_codes names (number 1 65536) text) _ e in
+    All-cons (λ size. 1 ≤ size) (number_of text) (map number_of args) (number-good names 1 65536 text parts.0) (least-sizes names args parts.1)
+
+most-sizes : (names args : List (List ℕ)) → flat_map (λ p. word_codes names p.0 p.1) (map size_place args) ≡ [] → All (λ size. size ≤ 65536) (map number_of args)
+most-sizes names [] e = All-nil (λ size. size ≤ 65536)
+most-sizes names (text ∷ args) e =
+    let parts = nil-parts (word_codes names (number 1 65536) text) _ e in
+    All-cons (λ size. size ≤ 65536) (number_of text) (map number_of args) (number-most names 1 65536 text parts.0) (most-sizes names args parts.1)
+
+-- the words after blocks spell sizes
+sizes-args : (names args : List (List ℕ)) → form_codes names (directive_form word.Blocks args) ≡ [] → AreSizes (map number_of args)
+sizes-args names args e =
+    let some = where-then_none (eqb (length args) 0) 2 (flat_map (λ p. word_codes names p.0 p.1) (map size_place (take 16 args)) ++ where_ (ltb 16 (length args)) 13) e in
+    let parts = nil-parts (flat_map (λ p. word_codes names p.0 p.1) (map size_place (take 16 args))) (where_ (ltb 16 (length args)) 13) some.1 in
+    let few : ltb 16 (length args) ≡ false = where-none (ltb 16 (length args)) 13 parts.1 in
+    let whole : take 16 args ≡ args = take_all 16 args (grind (arith, nat_tests)) in
+    let placed : flat_map (λ p. word_codes names p.0 p.1) (map size_place args) ≡ [] = rw whole at parts.0 in
+    record {
+      some = (let n = length-map args number_of in let there : eqb (length args) 0 ≡ false = some.0 in grind (arith, nat_tests));
+      least = least-sizes names args placed;
+      most = most-sizes names args placed;
+    }
+
+default-sizes : AreSizes (16 ∷ [])
+default-sizes = record {
+  some = omega arith;
+  least = All-cons (λ size. 1 ≤ size) 16 [] (omega arith) (All-nil (λ size. 1 ≤ size));
+  most = All-cons (λ size. size ≤ 65536) 16 [] (omega arith) (All-nil (λ size. size ≤ 65536));
+}
+
+is-blocks : (k : Keyword) → bytes_eq (spelling word.Blocks) (spelling k) ≡ true → k ≡ word.Blocks
+is-blocks word.Blocks e = refl
+is-blocks _ e = absurd (true≢false (sym e))
+
+abbrev blocks_in : List Line → List ℕ
+blocks_in own = cond (stands word.Blocks own) (map number_of (args_of word.Blocks own)) (16 ∷ [])
+
+sizes-own : (above ls : List Line) → AllGood above ls → AreSizes (blocks_in (own_below ls))
+sizes-own above [] good = default-sizes
+sizes-own above (too_long ∷ ls) good = sizes-own (too_long ∷ above) ls good.1
+sizes-own above (silent ∷ ls) good = sizes-own (silent ∷ above) ls good.1
+sizes-own above (unknown ∷ ls) good = sizes-own (unknown ∷ above) ls good.1
+sizes-own above (workers args ∷ ls) good = sizes-own (workers args ∷ above) ls good.1
+sizes-own above (job args ∷ ls) good = default-sizes
+sizes-own above (says k args ∷ ls) good =
+    ⊎_elim
+    (λ (blocks : bytes_eq (spelling word.Blocks) (spelling k) ≡ true).
+    let own = nil-parts (own_codes above (says k args)) [] good.0 in
+    let form = nil-parts _ (above_codes above (says k args)) own.0 in
+    rw blocks (sizes-args _ args (rw (is-blocks k blocks) at form.0)))
+    (λ (other : bytes_eq (spelling word.Blocks) (spelling k) ≡ false). rw other (sizes-own (says k args ∷ above) ls good.1))
+    (cases_Bool (bytes_eq (spelling word.Blocks) (spelling k)))
+
+sizes-jobs : (names : List (List ℕ)) (above ls : List Line) → AllGood above ls → All (λ (j : Job). AreSizes j.blocks) (jobs_of names ls)
+sizes-jobs names above [] good = All-nil (λ (j : Job). AreSizes j.blocks)
+sizes-jobs names above (too_long ∷ ls) good = sizes-jobs names (too_long ∷ above) ls good.1
+sizes-jobs names above (silent ∷ ls) good = sizes-jobs names (silent ∷ above) ls good.1
+sizes-jobs names above (unknown ∷ ls) good = sizes-jobs names (unknown ∷ above) ls good.1
+sizes-jobs names above (workers args ∷ ls) good = sizes-jobs names (workers args ∷ above) ls good.1
+sizes-jobs names above (says k args ∷ ls) good = sizes-jobs names (says k args ∷ above) ls good.1
+sizes-jobs names above (job args ∷ ls) good =
+    All-cons (λ (j : Job). AreSizes j.blocks) (job_of names (name_of args) (own_below ls)) (jobs_of (names ++ name_of args ∷ []) ls) (sizes-own (job args ∷ above) ls good.1) (sizes-jobs (names ++ name_of args ∷ []) (job args ∷ above) ls good.1)
+
 -- ---- a file that was read
 
 pub read-countable : (lines : List Line) (file : JobFile) → Reads lines file → IsCountable file
 read-countable lines file reads =
     let good = good-all [] lines reads.good in
-    rw reads.says (record { few = (let few = few-jobs [] [] lines good (omega arith) in omega arith); sized = sized-jobs [] [] lines good })
+    rw reads.says (record {
+      few = (let few = few-jobs [] [] lines good (omega arith) in omega arith);
+      sized = sized-jobs [] [] lines good;
+      blocks = sizes-jobs [] [] lines good;
+    })

@@ -1,4 +1,7 @@
 pub mod Countable
+pub mod Driven
+pub mod Going
+pub mod KeptModes
 pub mod LineCounts
 pub mod PieceLemmas
 pub mod ReportLemmas

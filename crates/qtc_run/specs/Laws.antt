@@ -3,20 +3,24 @@ use Rattle.std.specs.Prelude.{◌≡◌, ◌≢◌, ℕ, ◌+◌, ◌-◌, ◌<�
 use Rattle.std.specs.List.{concat, count_by}
 use Rattle.qtc_base.specs.Items.{total_bytes}
 use Rattle.qtc_base.specs.Lines.{lines}
-use Rattle.qtc_ops.specs.ItemValue.{ItemValue, bad}
-use Rattle.qtc_ops.specs.Kept.{pairs, texts}
+use Rattle.qtc_ops.specs.ItemValue.{bad}
+use Rattle.qtc_future.specs.declared.replies.Outcome.{Outcome}
+use Rattle.qtc_future.specs.declared.replies.Outcome.TheVariants.{Values, Failed, Canceled}
+use Rattle.qtc_kernel.specs.Driving.{called_by}
+use Rattle.qtc_kernel.specs.Laws.{IsFailing}
+use Rattle.qtc_kernel.specs.Runs.{times_called}
+use Rattle.qtc_kernel.specs.Workload.{Workload, bad_indexes, item_at, kept_texts, worked_on}
 use Rattle.qtc_job.specs.declared.jobs.Job.{Job}
 use Rattle.qtc_job.specs.declared.jobs.JobFile.{JobFile}
 use Rattle.qtc_job.specs.Grammar.{Reads}
 use Rattle.qtc_job.specs.Lines.{Line}
 use Rattle.qtc_run.specs.Sums.{IsCountable}
-use Rattle.qtc_run.specs.declared.reports.JobEnd.{JobEnd}
-use Rattle.qtc_run.specs.declared.reports.JobEnd.TheVariants.{Values, Failed}
 use Rattle.qtc_run.specs.declared.reports.JobReport.{JobReport}
 use Rattle.qtc_run.specs.declared.reports.Report.{Report}
-use Rattle.qtc_run.specs.Reports.{job_report, job_text, report_text, reported}
-use Rattle.qtc_run.specs.Sequential.{bad_indexes, called, sequential, worked_on}
-use Rattle.qtc_run.specs.Sources.{Texts, pieces_of}
+use Rattle.qtc_run.specs.Reports.{AreReports, IsReport}
+use Rattle.qtc_run.specs.ReportTexts.{job_text, report_text}
+use Rattle.qtc_run.specs.Sequential.{sequential}
+use Rattle.qtc_run.specs.Sources.{Texts, pieces_of, work_of}
 
 -- ---- sources
 
@@ -45,24 +49,20 @@ LinesCountFeeds = (text : List ℕ) → LinesAreCounted text
 -- ---- the sequential answer
 
 -- all values are kept or dropped, or the item is bad and none before it is
-abbrev pub EndsAs : (List ℕ → ItemValue) → List (List ℕ) → JobEnd → Type 0
-EndsAs value items (Values values) = (values ≡ texts (pairs value items)) × All (λ item. value item ≢ bad) items
-EndsAs value items (Failed index item) =
-    (index < length items) × (slice_index_or items index [] ≡ item) × (value item ≡ bad)
-    × ((earlier : ℕ) → earlier < index → value (slice_index_or items earlier []) ≢ bad)
+abbrev pub EndsAs : Workload → Outcome (List ℕ) → Type 0
+EndsAs work (Values values) = (values ≡ kept_texts work) × All (λ item. work.value item ≢ bad) work.items
+EndsAs work (Failed failure) =
+    IsFailing work failure
+    × ((earlier : ℕ) → earlier < failure.index → work.value (item_at work earlier) ≢ bad)
+EndsAs work Canceled = ⊥
 
 abbrev pub JobsFailAtTheFirstBad : Type 0
-JobsFailAtTheFirstBad = (value : List ℕ → ItemValue) (items : List (List ℕ)) →
-    EndsAs value items (sequential value items)
-
--- how often an index is called
-abbrev pub times_called : (List ℕ → ItemValue) → List (List ℕ) → ℕ → ℕ
-times_called value items index = count_by (λ call. call == index) (called value items)
+JobsFailAtTheFirstBad = (work : Workload) → EndsAs work (sequential work)
 
 -- each index below the number of items worked on once, and no other
 abbrev pub CallsAreOnce : Type 0
-CallsAreOnce = (value : List ℕ → ItemValue) (items : List (List ℕ)) (index : ℕ) →
-    times_called value items index ≡ (if nat_lt index (worked_on items (bad_indexes value items)) then 1 else 0)
+CallsAreOnce = (work : Workload) (index : ℕ) →
+    times_called (called_by work) index ≡ (if nat_lt index (worked_on work (bad_indexes work)) then 1 else 0)
 
 -- ---- the report
 
@@ -77,16 +77,17 @@ abbrev pub ReportsGoJobByJob : Type 0
 ReportsGoJobByJob = (workers : ℕ) (jobs : List Job) (reports : List JobReport) (job : Job) (done : JobReport) →
     length jobs ≡ length reports →
     report_text (file_with workers (jobs ++ job ∷ [])) (report_with (reports ++ done ∷ []))
-    ≡ report_text (file_with workers jobs) (report_with reports) ++ job_text job.name done.ended
+    ≡ report_text (file_with workers jobs) (report_with reports) ++ job_text job.name done
 
--- as many reports as jobs, each that of the job at its place
-pub record ReportsStandByPlace (texts : Texts) (file : JobFile) : Type 0 where
-  pub number : length (reported texts file).jobs ≡ length file.jobs
-  pub each : (place : ℕ) (d : Job) (e : JobReport) → place < length file.jobs →
-      slice_index_or (reported texts file).jobs place e ≡ job_report texts (slice_index_or file.jobs place d)
+-- as many reports as jobs, each of the job at its place
+pub record ReportsStandByPlace (texts : Texts) (jobs : List Job) (reports : List JobReport) : Type 0 where
+  pub number : length reports ≡ length jobs
+  pub each : (place : ℕ) (d : Job) (e : JobReport) → place < length jobs →
+      let job = slice_index_or jobs place d in IsReport job (work_of texts job) (slice_index_or reports place e)
 
 abbrev pub JobsAreReportedInOrder : Type 0
-JobsAreReportedInOrder = (texts : Texts) (file : JobFile) → ReportsStandByPlace texts file
+JobsAreReportedInOrder = (texts : Texts) (jobs : List Job) (reports : List JobReport) →
+    AreReports texts jobs reports → ReportsStandByPlace texts jobs reports
 
 -- every file that the grammar reads can be counted
 abbrev pub ReadFilesCanBeCounted : Type 0

@@ -2,7 +2,9 @@
 pub mod Laws
 pub mod Loaded
 pub mod LoadedInside
+pub mod Pairing
 pub mod Reports
+pub mod ReportTexts
 pub mod Runnable
 pub mod Sequential
 pub mod Sources

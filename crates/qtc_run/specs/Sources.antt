@@ -6,6 +6,8 @@ use Rattle.qtc_outside.specs.Shelf.{text_under}
 use Rattle.qtc_job.specs.declared.jobs.Input.{Input}
 use Rattle.qtc_job.specs.declared.jobs.Input.TheVariants.{Lines, Files, Pieces, Job, All, Any}
 use Rattle.qtc_job.specs.declared.jobs.Job.{Job as JobOf}
+use Rattle.qtc_kernel.specs.Workload.{Workload, workload}
+use Rattle.qtc_ops.specs.Operations.{value_of}
 
 -- texts by their names, each name once
 abbrev pub Texts : Type 0
@@ -35,6 +37,10 @@ items_of texts (Pieces size name) = pieces_of size (text_of texts name)
 items_of texts (Job place) = []
 items_of texts (All places) = []
 items_of texts (Any places) = []
+
+-- what a job works on
+abbrev pub work_of : Texts → JobOf → Workload
+work_of texts job = workload (items_of texts job.input) (value_of job.op)
 
 -- the items of jobs, one job after the other
 abbrev pub items_of_all : Texts → List JobOf → List (List ℕ)

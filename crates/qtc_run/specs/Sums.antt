@@ -5,6 +5,7 @@ use Rattle.qtc_job.specs.declared.jobs.Input.{Input}
 use Rattle.qtc_job.specs.declared.jobs.Input.TheVariants as input
 use Rattle.qtc_job.specs.declared.jobs.Job.{Job}
 use Rattle.qtc_job.specs.declared.jobs.JobFile.{JobFile}
+use Rattle.qtc_kernel.specs.Driving.{AreSizes}
 use Rattle.qtc_run.specs.declared.reports.RunFault.{RunFault}
 use Rattle.qtc_run.specs.declared.reports.RunFault.TheVariants.{TooLarge, Memory}
 use Rattle.qtc_run.specs.declared.sizes.Size.{Size}
@@ -40,10 +41,12 @@ IsSized (input.Files names) = length names ≤ 64
 IsSized (input.Pieces size name) = 1 ≤ size
 IsSized _ = Unit {0}
 
--- a file whose items can be counted in numbers of 64 bits: its jobs are few, and each input is sized
+-- a file whose items can be counted in numbers of 64 bits, and taken in blocks: its jobs are few, each input is sized, and
+-- the sizes of the blocks are such
 pub record IsCountable (file : JobFile) : Type 0 where
   pub few : length file.jobs ≤ 64
   pub sized : All (λ (job : Job). IsSized job.input) file.jobs
+  pub blocks : All (λ (job : Job). AreSizes job.blocks) file.jobs
 
 -- every text that the jobs name is there, and their sizes can be added
 pub record CanCount (texts : Texts) (jobs : List Job) : Type 0 where

@@ -1,61 +1,97 @@
-ghost use Rattle.std.specs.Prelude.{◌≡◌, ◌++◌, IfOk, OnOk, OnErr};
-ghost use Rattle.qtc_run.specs.Sequential.{called, sequential, Calls, CallsFront, Takes};
+ghost use Rattle.std.specs.Prelude.{◌≡◌, [], IsTrue, IfOk, if◌then◌else◌};
+ghost use Rattle.qtc_base.specs.Items.{PassesLimit};
+ghost use Rattle.qtc_kernel.specs.Driving.{AreSizes, is_filter};
+ghost use Rattle.qtc_future.specs.Future.{events_of, journal_of};
+ghost use Rattle.qtc_run.specs.Loaded.{HasAll};
+ghost use Rattle.qtc_run.specs.Reports.{IsReport, is_keep};
+ghost use Rattle.qtc_run.specs.Runnable.{is_runnable};
+ghost use Rattle.qtc_run.specs.Sequential.{IsSequentialReport};
+ghost use Rattle.qtc_run.specs.Sources.{items_of, names_of, work_of};
+ghost use Rattle.qtc_run.specs.Sums.{IsSized};
 
-use crate::JobEnd;
-use qtc_base::{Bytes, Items, List, NoMemory};
-use qtc_ops::{ItemFault, ItemFn};
+use crate::sources::items_from;
+use crate::{JobReport, Loaded};
+use qtc_base::{Bytes, List, NoMemory, Value};
+use qtc_events::{Entry, Event};
+use qtc_future::FutureCore;
+use qtc_job::Job;
+use qtc_kernel::{Kind, run_one};
+use qtc_ops::{ItemFn, ItemOp, OpFn};
 use qtc_outside::Gate;
 use std::alloc::Global;
 
-/// Calls the function on an item, and appends what it keeps.
-fn take_value<F: ItemFn>(
-    function: &mut F,
-    index: u32,
-    item: &[u8],
-    values: &mut List<Bytes>,
-) -> Result<(), ItemFault>
-    ensures takes { Takes (F.value function.old item.now) values.old values.new result }
-    ensures calls { Calls (F.called function.old) index (F.called function.new) result }
-    ensures value_stays { F.value function.new ≡ F.value function.old }
+/// What an engine makes of the items of an operation.
+fn kind_of(op: &ItemOp) -> Kind
+    ensures { is_filter result ≡ is_keep op.now }
 {
-    match function.apply(index, item) {
-        Ok(Some(text)) => match values.push(text) {
-            Ok(()) => Ok(()),
-            Err(_) => Err(ItemFault::Memory),
-        },
-        Ok(None) => Ok(()),
-        Err(fault) => Err(fault),
+    match op {
+        ItemOp::Map(_) => Kind::Mapped,
+        ItemOp::Keep { .. } => Kind::Filtered,
     }
 }
 
-/// Calls the function on the items by ascending index, up to the first bad one, and enters the gate with `place` and
-/// the index just before each call. Err is want of memory.
-pub fn run_job<F: ItemFn, G: Gate>(
+/// The indexes that a function was called on.
+fn calls_of<F: ItemFn>(alloc: Global, function: &F) -> Result<List<u32>, NoMemory>
+    ensures { IfOk result (λ calls. calls ≡ F.called function.now) }
+{
+    let calls = Vec::from_slice(alloc, function.calls())?;
+    Ok(List::from_vec(calls))
+}
+
+/// The journal of a future.
+fn journal_of(alloc: Global, future: &FutureCore<Bytes>) -> Result<List<Entry>, NoMemory>
+    ensures { IfOk result (λ journal. journal ≡ journal_of future.now) }
+{
+    let journal = Vec::from_slice(alloc, future.journal())?;
+    Ok(List::from_vec(journal))
+}
+
+/// The events of a future that is watched; else none.
+fn events_of(
+    alloc: Global,
+    future: &FutureCore<Bytes>,
+    watch: bool,
+) -> Result<List<Event>, NoMemory>
+    ensures { IfOk result (λ events. events ≡ (if watch then events_of future.now else [])) }
+{
+    if !watch {
+        return Ok(List::new(alloc));
+    }
+    let events = Vec::from_slice(alloc, future.events())?;
+    Ok(List::from_vec(events))
+}
+
+/// Runs the job at this place of a file, with items of its own that are gone at the end.
+pub fn run_job<G: Gate>(
     alloc: Global,
     place: u32,
-    items: &Items,
-    function: &mut F,
+    job: &Job,
+    loaded: &Loaded,
     gate: &G,
-) -> Result<JobEnd, NoMemory>
-    ensures ended { IfOk result (λ end. end ≡ sequential (F.value function.old) items.now) }
-    ensures called { OnOk result
-        (F.called function.new ≡ F.called function.old ++ called (F.value function.old) items.now) }
-    ensures value_stays { F.value function.new ≡ F.value function.old }
-    ensures front { OnErr result
-        (CallsFront (F.called function.old) (called (F.value function.old) items.now) (F.called function.new)) }
+) -> Result<JobReport, NoMemory>
+    requires named { HasAll loaded.now (names_of job.now.input) }
+    requires sized { IsSized job.now.input }
+    requires blocks { AreSizes job.now.blocks }
+    requires runnable { IsTrue (is_runnable job.now) }
+    requires fits { ¬ PassesLimit (items_of loaded.now job.now.input) }
+    ensures report { IfOk result (IsReport job.now (work_of loaded.now job.now)) }
+    ensures sequential { IfOk result (IsSequentialReport (work_of loaded.now job.now)) }
 {
-    let mut values = List::new(alloc);
-    for index in 0..items.len() {
-        gate.enter(place, index);
-        let item = items.get(index).unwrap();
-        match take_value(function, index, item, &mut values) {
-            Ok(()) => {}
-            Err(ItemFault::Bad) => return Ok(JobEnd::Failed(
-                index,
-                Bytes::from_slice(alloc, item)?,
-            )),
-            Err(ItemFault::Memory) => return Err(NoMemory),
-        }
-    }
-    Ok(JobEnd::Values(values))
+    let items = items_from(alloc, &job.input, loaded)?;
+    let mut function = OpFn::new(alloc, job.op.copy()?);
+    let sizes = job.blocks.as_slice();
+    let kind = kind_of(&job.op);
+    let future = run_one(alloc, kind, &items, place, sizes, &mut function, gate)?;
+    let calls = calls_of(alloc, &function)?;
+    let journal = journal_of(alloc, &future)?;
+    let events = events_of(alloc, &future, job.watch)?;
+    Ok(JobReport {
+        ended: future.into_outcome()?,
+        partial: List::new(alloc),
+        order: None,
+        any: None,
+        calls,
+        journal,
+        events,
+    })
 }

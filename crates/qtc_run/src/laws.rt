@@ -12,7 +12,7 @@ pub fn lines_count_feeds()
     ensures { LinesCountFeeds }
 {}
 
-/// A job fails with the first bad item, and where none is bad it ends with the kept texts.
+/// The sequential answer is the first bad item, and where none is bad the kept texts.
 pub fn jobs_fail_at_the_first_bad()
     ensures { JobsFailAtTheFirstBad }
 {}
@@ -32,7 +32,7 @@ pub fn jobs_are_reported_in_order()
     ensures { JobsAreReportedInOrder }
 {}
 
-/// Every file that the grammar reads has few enough jobs and items to be counted.
+/// Every file that the grammar reads has few enough jobs and items to be counted, and blocks of 1 to 65,536 items.
 pub fn read_files_can_be_counted()
     ensures { ReadFilesCanBeCounted }
 {}

@@ -5,23 +5,21 @@ mod file_runs;
 mod job_runs;
 mod laws;
 mod loaded;
+mod report_rooms;
 mod report_texts;
 mod reports;
 mod runnable;
 mod sizes;
 mod sources;
 mod sums;
-#[cfg(test)]
-mod tests;
 
 pub use file_runs::run_file;
-pub use job_runs::run_job;
 pub use laws::{
     calls_are_once, jobs_are_reported_in_order, jobs_fail_at_the_first_bad, lines_count_feeds,
     pieces_are_the_text, read_files_can_be_counted, reports_go_job_by_job,
 };
 pub use loaded::Loaded;
 pub use report_texts::report_text;
-pub use reports::{JobEnd, JobReport, Report, RunFault};
+pub use reports::{JobReport, Placed, Report, RunFault};
 pub use runnable::is_runnable;
 pub use sources::texts_named;

@@ -1,23 +1,34 @@
-ghost use Rattle.std.specs.Prelude.{◌≡◌, IfOk};
-ghost use Rattle.qtc_run.specs.Reports.{is_failed as is_failed_end};
+ghost use Rattle.std.specs.Prelude.{◌≡◌};
+ghost use Rattle.qtc_run.specs.Reports.{is_unfinished as is_unfinished_end};
 
 use qtc_base::{Bytes, List, NoMemory};
-use std::alloc::Global;
+use qtc_events::{Entry, Event};
+use qtc_future::Outcome;
 
-/// How a job ended.
+/// A result of a canceled job: its index, or in a filter its position, and its value.
 #[derive(Drop)]
-pub enum JobEnd {
-    /// The values of the kept items, by ascending index.
-    Values(List<Bytes>),
-    /// The least index of a bad item, and that item.
-    Failed(u32, Bytes),
+pub struct Placed {
+    pub index: u32,
+    pub value: Bytes,
 }
 
-/// What is reported of a job: how it ended, and the indexes that its function was called on, in order.
+/// What is reported of a job.
 #[derive(Drop)]
 pub struct JobReport {
-    pub ended: JobEnd,
+    /// Its values, the item that failed, or that it was canceled.
+    pub ended: Outcome<Bytes>,
+    /// What a canceled job had accepted, by ascending index.
+    pub partial: List<Placed>,
+    /// In which order the blocks of an unordered reduction were folded, each by its first index.
+    pub order: Option<List<u32>>,
+    /// Which of the jobs that an `input any` names gave its items, from 0.
+    pub any: Option<u32>,
+    /// The indexes that its function was called on.
     pub calls: List<u32>,
+    /// The calls on its future that had an effect, in order.
+    pub journal: List<Entry>,
+    /// The events of a job that is watched, in order.
+    pub events: List<Event>,
 }
 
 /// What is reported of a run: its jobs in the order of the file.
@@ -47,39 +58,26 @@ impl From<NoMemory> for RunFault {
     }
 }
 
-/// Whether a job failed.
-fn is_failed(end: &JobEnd) -> bool
-    ensures { result ≡ is_failed_end end.now }
+/// Whether a job has no values.
+fn is_unfinished(ended: &Outcome<Bytes>) -> bool
+    ensures { result ≡ is_unfinished_end ended.now }
 {
-    match end {
-        JobEnd::Values(_) => false,
-        JobEnd::Failed(_, _) => true,
+    match ended {
+        Outcome::Values(_) => false,
+        Outcome::Failed(_) | Outcome::Canceled => true,
     }
 }
 
 impl Report {
-    ghost use Rattle.qtc_run.specs.Reports.{all_calls, has_failed as has_failed_job};
+    ghost use Rattle.qtc_run.specs.Reports.{has_failed as has_failed_job};
 
-    /// Whether a job of the run failed.
+    /// Whether a job of the run failed or was canceled.
     pub fn has_failed(&self) -> bool
         ensures { result ≡ has_failed_job self.now }
     {
-        self.jobs.as_slice().iter().any(|job| is_failed(&job.ended))
-    }
-
-    /// The calls of all jobs, one job after the other. Those of the first stay where they are. Err is want of
-    /// memory.
-    pub fn into_calls(self, alloc: Global) -> Result<List<u32>, NoMemory>
-        ensures { IfOk result (λ calls. calls ≡ all_calls self) }
-    {
-        let mut jobs = self.jobs.into_vec().into_iter();
-        let Some(first) = jobs.next() else {
-            return Ok(List::new(alloc));
-        };
-        let mut calls = first.calls.into_vec();
-        for job in jobs {
-            calls.extend_from_slice(job.calls.as_slice())?;
-        }
-        Ok(List::from_vec(calls))
+        self.jobs
+            .as_slice()
+            .iter()
+            .any(|job| is_unfinished(&job.ended))
     }
 }

@@ -1,6 +1,6 @@
 use Rattle.std.proofs.Common.{◌≡◌, ◌++◌, drop}
 use Rattle.std.specs.List.{flat_map}
-use Rattle.qtc_run.specs.Reports.{value_line}
+use Rattle.qtc_run.specs.ReportTexts.{value_line}
 use Rattle.qtc_run.proofs.report_texts.append_values.Given as goal
 
 abbrev pub invariant-loop-value : goal.invariant-loop-value

@@ -2,7 +2,7 @@ use Rattle.std.proofs.Common.{◌≡◌, ◌++◌}
 use Rattle.std.specs.List.{flat_map, zip}
 use Rattle.std.specs.Iterator.Adapters.{zip_first, zip_second}
 use Rattle.std.specs.Slice.Iter.{iter_rest}
-use Rattle.qtc_run.specs.Reports.{report_text}
+use Rattle.qtc_run.specs.ReportTexts.{report_text}
 use Rattle.qtc_run.proofs.ReportLemmas.{pair_text}
 use Rattle.qtc_run.proofs.report_texts.report_text.Given as goal
 

@@ -1,7 +1,7 @@
 -- What an engine that one worker drove comes to is what its job may report.
-use Rattle.std.proofs.Common.{◌≡◌, ◌≢◌, ℕ, ◌+◌, ◌<◌, ◌≤◌, ◌⊎◌, inl, inr, Bool, true, false, eqb, List, [], ◌∷◌, ◌++◌, length, Option, Some, None, refl, ap, sym, subst, ◌∙◌, map, arith}
+use Rattle.std.proofs.Common.{◌≡◌, ◌≢◌, ℕ, ◌+◌, ◌<◌, ◌≤◌, ◌⊎◌, inl, inr, Bool, true, false, eqb, List, [], ◌∷◌, ◌++◌, length, get_or, Option, Some, None, refl, ap, sym, subst, ◌∙◌, map, ⊎_elim, arith}
 use Rattle.std.specs.Prelude.{All, IsTrue, ◌&&◌, ◌==◌, filter, fold, is_none, slice_get, if◌then◌else◌}
-use Rattle.std.proofs.lemmas.Bool.{and_parts, true≢false}
+use Rattle.std.proofs.lemmas.Bool.{and_parts, cases_lt, true≢false}
 use Rattle.std.proofs.lemmas.Bool.Decides.{nat_tests}
 use Rattle.std.proofs.lemmas.List.{map-append, same_lists, take-append-drop}
 use Rattle.std.proofs.lemmas.List.Elements.{All-nil, All-cons, All-head, All-tail, All-map, All-filter}
@@ -10,7 +10,16 @@ use Rattle.qtc_base.specs.Ranges.{times_covered}
 use Rattle.qtc_events.specs.Flags.{new_flags}
 use Rattle.qtc_events.specs.declared.calls.Call.TheVariants.{Start, Finish}
 use Rattle.qtc_events.specs.declared.entries.Entry.{Entry}
+use Rattle.qtc_base.specs.Decimal.{decimal_text, number_of}
+use Rattle.qtc_base.specs.Items.{PassesLimit}
+use Rattle.qtc_ops.specs.ItemValue.{ItemValue, kept, dropped, bad}
+use Rattle.qtc_ops.specs.Maps.{map_value}
+use Rattle.qtc_ops.specs.Numbers.{is_number}
+use Rattle.qtc_ops.specs.Operations.{value_of}
 use Rattle.qtc_ops.specs.declared.operations.ItemOp.{ItemOp}
+use Rattle.qtc_ops.specs.declared.operations.ItemOp.TheVariants.{Map, Keep}
+use Rattle.qtc_ops.specs.declared.operations.MapOp.{MapOp}
+use Rattle.qtc_ops.specs.declared.operations.MapOp.TheVariants.{Same, Length, Digest, Field, Number}
 use Rattle.qtc_store.specs.Stored.{Stored, IsFirstResults}
 use Rattle.qtc_future.specs.Ends.{IsOutcome}
 use Rattle.qtc_future.specs.Future.{Future, Logged, entries_of, events_of, failure_of, flags_of, journal_of, reports_of, results_of}
@@ -22,12 +31,14 @@ use Rattle.qtc_kernel.specs.Driving.{EndsWith as DriveEnds, IsDriven, IsOpenedAn
 use Rattle.qtc_kernel.specs.Laws.{AcceptedBatchesAreRight, AreCalledOnce, FailuresAreBadItems, FuturesAreLegal, IsFailing, NoIndexIsCalledTwice, RangesAreBlocks, WholeRunsAreSequential}
 use Rattle.qtc_kernel.specs.Machine.{Engine, Event, Mode, new_engine, run_of}
 use Rattle.qtc_kernel.specs.Runs.{AreInTime, HasSize, IsBlock, IsThrough, accepted_ranges, claimed_ranges, is_taken, reported_ranges, times_called}
-use Rattle.qtc_kernel.specs.Workload.{Suits, Workload, bad_indexes, item_at, kept_texts, size_of}
+use Rattle.qtc_kernel.specs.Workload.{Suits, Workload, bad_indexes, item_at, kept_texts, size_of, workload}
 use Rattle.qtc_kernel.specs.declared.kinds.Kind.{Kind}
 use Rattle.qtc_job.specs.declared.jobs.Job.{Job}
+use Rattle.qtc_run.specs.Laws.{DrivenJobsAreReported, GoodJobsFinish, IsMadeOf}
 use Rattle.qtc_run.specs.Reports.{AreReported, EndsWith, IsOpenedAndFinished, IsReport, LetsGoOn, calls_in, future_of, is_keep}
 use Rattle.qtc_run.specs.Runnable.{is_runnable}
-use Rattle.qtc_run.specs.Sequential.{IsSequentialReport, ended_with, sequential}
+use Rattle.qtc_run.specs.Sequential.{IsSequentialReport, ended_with}
+use Rattle.qtc_run.specs.Sources.{Texts, items_of, work_of}
 use Rattle.qtc_run.specs.declared.reports.JobReport.{JobReport}
 use Rattle.qtc_run.proofs.Going.{going-on}
 use Rattle.qtc_run.proofs.KeptModes.{run-keeps, same-future}
@@ -99,8 +110,8 @@ module _ (laws : EngineLaws) (job : Job) (work : Workload) (kind : Kind) (events
 
   -- a good job has no failure
   good-fails : (failure : Failure) → bad_indexes work ≡ [] → failure_of engine.future ≡ Some failure → ⊥
-  good-fails failure good kept =
-      let failing = laws.failing work mode events failure kept in
+  good-fails failure good keeps =
+      let failing = laws.failing work mode events failure keeps in
       good-items work good failure.index failing.within failing.bad_value
 
   -- both what a report says of the outcome, and that it is the sequential answer
@@ -132,21 +143,21 @@ module _ (laws : EngineLaws) (job : Job) (work : Workload) (kind : Kind) (events
       absurd (let stands : (flags_of engine.future).canceled ≡ true = is.1 in true≢false (sym stands ∙ through.going))
 
   ends-bad : (report : JobReport) (index : ℕ) (others : List ℕ) (outcome : Outcome (List ℕ)) → failure_of engine.future ≡ Some (record { index = index; item = item_at work index }) → IsOutcome engine.future outcome → Ends report (index ∷ others) outcome
-  ends-bad report index others (Values values) kept is =
-      absurd (let none : None ≡ Some (record { index = index; item = item_at work index }) = sym is.0 ∙ kept in cc)
-  ends-bad report index others (Failed failure) kept is =
+  ends-bad report index others (Values values) keeps is =
+      absurd (let none : None ≡ Some (record { index = index; item = item_at work index }) = sym is.0 ∙ keeps in cc)
+  ends-bad report index others (Failed failure) keeps is =
       record {
         fits = record { failing = laws.failing work mode events failure is; kept = is };
-        answer = ap Failed (some-same failure (record { index = index; item = item_at work index }) (sym is ∙ kept));
+        answer = ap Failed (some-same failure (record { index = index; item = item_at work index }) (sym is ∙ keeps));
       }
-  ends-bad report index others Canceled kept is =
-      absurd (let none : None ≡ Some (record { index = index; item = item_at work index }) = sym is.0 ∙ kept in cc)
+  ends-bad report index others Canceled keeps is =
+      absurd (let none : None ≡ Some (record { index = index; item = item_at work index }) = sym is.0 ∙ keeps in cc)
 
   ends : (report : JobReport) (bads : List ℕ) (outcome : Outcome (List ℕ)) → Suits (is_filter kind) work → size_of work ≤ 8388608 → job.cancel_after ≡ 0 → engine.called ≡ report.calls → report.journal ≡ journal_of engine.future → AreInTime work (new_engine (is_filter kind) 0 0) events → bad_indexes work ≡ bads → DriveEnds work bads engine → IsOutcome engine.future outcome → Ends report bads outcome
   ends report [] outcome suits small unset calls journal in_time bads through is =
       ends-good report outcome suits small unset calls journal through in_time bads is
-  ends report (index ∷ others) outcome suits small unset calls journal in_time bads kept is =
-      ends-bad report index others outcome kept is
+  ends report (index ∷ others) outcome suits small unset calls journal in_time bads keeps is =
+      ends-bad report index others outcome keeps is
 
 -- ---- the journal
 
@@ -192,28 +203,13 @@ plain-future job work kind events plain is =
 
 -- ---- the report
 
--- what the report is made of
-pub record IsMadeOf (job : Job) (work : Workload) (report : JobReport) (future : Future (List ℕ)) : Type 0 where
-  pub ended : IsOutcome future report.ended
-  pub calls : report.calls ≡ called_by work
-  pub journal : report.journal ≡ journal_of future
-  pub events : report.events ≡ (if job.watch then events_of future else [])
-  pub partial : report.partial ≡ []
-  pub order : report.order ≡ None
-  pub any : report.any ≡ None
-
-pub record IsDone (job : Job) (work : Workload) (report : JobReport) : Type 0 where
-  pub report_is : IsReport job work report
-  pub sequential_is : IsSequentialReport work report
-
-made-report : EngineLaws → (job : Job) (work : Workload) (report : JobReport) (kind : Kind) (events : List Event) → IsPlain job → is_filter kind ≡ is_keep job.op → Suits (is_filter kind) work → size_of work ≤ 8388608 → All (HasSize job.blocks) events → AreInTime work (new_engine (is_filter kind) 0 0) events → (run_of work (plain_mode kind) events).called ≡ called_by work → DriveEnds work (bad_indexes work) (run_of work (plain_mode kind) events) → IsOpenedAndClosed (journal_of (run_of work (plain_mode kind) events).future) → IsMadeOf job work report (run_of work (plain_mode kind) events).future → IsDone job work report
-made-report laws job work report kind events plain kind_is suits small sizes in_time called ended closed made =
+made-report : EngineLaws → (job : Job) (work : Workload) (report : JobReport) (kind : Kind) (events : List Event) → IsPlain job → is_filter kind ≡ is_keep job.op → Suits (is_filter kind) work → size_of work ≤ 8388608 → All (HasSize job.blocks) events → AreInTime work (new_engine (is_filter kind) 0 0) events → (run_of work (plain_mode kind) events).called ≡ called_by work → DriveEnds work (bad_indexes work) (run_of work (plain_mode kind) events) → IsOpenedAndClosed (journal_of (run_of work (plain_mode kind) events).future) → IsMadeOf job report (run_of work (plain_mode kind) events).future → report.calls ≡ called_by work → IsReport job work report × IsSequentialReport work report
+made-report laws job work report kind events plain kind_is suits small sizes in_time called ended closed made worked =
     let future : Future (List ℕ) = (run_of work (plain_mode kind) events).future in
     let same : future_of job future.calls ≡ future = plain-future job work kind events plain kind_is in
-    let calls : (run_of work (plain_mode kind) events).called ≡ report.calls = called ∙ sym made.calls in
-    let outcome = ends laws job work kind events report (bad_indexes work) report.ended suits small plain.cancel_after calls made.journal in_time refl ended made.ended in
-    record {
-      report_is = record {
+    let calls : (run_of work (plain_mode kind) events).called ≡ report.calls = called ∙ sym worked in
+    let outcome = ends laws job work kind events report (bad_indexes work) report.ended suits small plain.cancel_after calls made.journal in_time refl ended made.ended in (
+      record {
         logged = future.calls;
         legal = subst IsLegal (sym same) (laws.legal work (plain_mode kind) events suits);
         journal = made.journal;
@@ -225,12 +221,62 @@ made-report laws job work report kind events plain kind_is suits small sizes in_
         order = made.order;
         any = made.any;
         events = made.events ∙ ap (λ (future : Future (List ℕ)). if job.watch then events_of future else []) (sym same);
-      };
-      sequential_is = record { ended = outcome.answer; calls = made.calls };
-    }
+      },
+      record { ended = outcome.answer; calls = worked },
+    )
 
-pub driven-report : EngineLaws → (job : Job) (work : Workload) (report : JobReport) (kind : Kind) (future : Future (List ℕ)) → is_runnable job ≡ true → is_filter kind ≡ is_keep job.op → Suits (is_filter kind) work → size_of work ≤ 8388608 → IsDriven work kind job.blocks future → IsMadeOf job work report future → IsDone job work report
-driven-report laws job work report kind future ready kind_is suits small driven made =
+pub driven-reported : EngineLaws → DrivenJobsAreReported
+driven-reported laws job work report kind future ready kind_is suits small driven worked made =
     made-report laws job work report kind driven.events (runnable-plain job ready) kind_is suits small driven.blocks driven.in_time driven.called driven.ends
     (subst (λ (future : Future (List ℕ)). IsOpenedAndClosed (journal_of future)) driven.ran driven.journal)
-    (subst (IsMadeOf job work report) driven.ran made)
+    (subst (IsMadeOf job report) driven.ran made) worked
+
+-- ---- a job without a bad item
+
+finish-by : (job : Job) (work : Workload) (report : JobReport) (future : Future (List ℕ)) (outcome : Outcome (List ℕ)) → bad_indexes work ≡ [] → EndsWith job work report future outcome → outcome ≡ Values (kept_texts work)
+finish-by job work report future (Values values) good is = ap Values is.values_are
+finish-by job work report future (Failed failure) good is =
+    absurd (good-items work good failure.index is.failing.within is.failing.bad_value)
+finish-by job work report future Canceled good is = absurd is
+
+pub good-finish : GoodJobsFinish
+good-finish job work report is good = finish-by job work report (future_of job is.logged) report.ended good is.ended
+
+-- ---- the operation of a job
+
+number-keeps : (b : Bool) (text : List ℕ) → (if b then kept text else bad) ≢ dropped
+number-keeps true text is = cc
+number-keeps false text is = cc
+
+map-keeps : (op : MapOp) (item : List ℕ) → map_value op item ≢ dropped
+map-keeps Same item is = cc
+map-keeps Length item is = cc
+map-keeps Digest item is = cc
+map-keeps (Field place) item is = cc
+map-keeps Number item is = number-keeps (is_number item) (decimal_text (number_of item)) is
+
+-- a map drops no item
+pub op-suits : (op : ItemOp) (kind : Kind) (items : List (List ℕ)) → is_filter kind ≡ is_keep op → Suits (is_filter kind) (workload items (value_of op))
+op-suits (Map op) kind items same plain = λ k d within. map-keeps op (get_or items k d)
+op-suits (Keep inverted pred) kind items same plain = absurd (true≢false (sym same ∙ plain))
+
+-- ---- a job over its texts
+
+few-items : (items : List (List ℕ)) → (PassesLimit items → ⊥) → length items ≤ 8388608
+few-items items fits =
+    ⊎_elim (λ (many : 8388608 < length items). absurd (fits (inl many))) (λ (few : length items ≤ 8388608). few) (cases_lt 8388608 (length items))
+
+pub job-reported : DrivenJobsAreReported → (texts : Texts) (job : Job) (items : List (List ℕ)) (value : List ℕ → ItemValue) (kind : Kind) (sizes : List ℕ) (future : Future (List ℕ)) (report : JobReport) → is_runnable job ≡ true → is_filter kind ≡ is_keep job.op → items ≡ items_of texts job.input → value ≡ value_of job.op → sizes ≡ job.blocks → (PassesLimit (items_of texts job.input) → ⊥) → IsDriven (workload items value) kind sizes future → report.calls ≡ called_by (workload items value) → IsMadeOf job report future → IsReport job (work_of texts job) report × IsSequentialReport (work_of texts job) report
+job-reported law texts job items value kind sizes future report ready kind_is items_are value_is sizes_are fits driven calls made =
+    let work : workload items value ≡ work_of texts job = ap (λ items. workload items value) items_are ∙ ap (workload (items_of texts job.input)) value_is in
+    law job (work_of texts job) report kind future ready kind_is (op-suits job.op kind (items_of texts job.input) kind_is) (few-items (items_of texts job.input) fits)
+    (subst (λ (sizes : List ℕ). IsDriven (work_of texts job) kind sizes future) sizes_are (subst (λ (work : Workload). IsDriven work kind sizes future) work driven))
+    (calls ∙ ap called_by work) made
+
+pub value-suits : (op : ItemOp) (kind : Kind) (items : List (List ℕ)) (value : List ℕ → ItemValue) → is_filter kind ≡ is_keep op → value ≡ value_of op → Suits (is_filter kind) (workload items value)
+value-suits op kind items value same value_is =
+    subst (λ (value : List ℕ → ItemValue). Suits (is_filter kind) (workload items value)) (sym value_is) (op-suits op kind items same)
+
+-- the calls of a function that was not called before
+pub first-calls : (before after made calls : List ℕ) → before ≡ [] → after ≡ before ++ made → calls ≡ after → calls ≡ made
+first-calls before after made calls none more are = are ∙ (more ∙ ap (λ s. s ++ made) none)

@@ -1,5 +1,5 @@
 -- No event of an engine changes the mode or the thresholds of its future.
-use Rattle.std.proofs.Common.{◌≡◌, ℕ, ◌×◌, Bool, true, false, nat_lt, nat_eq, List, [], ◌∷◌, Option, None, Some, if◌then◌else◌, refl, ap, sym, ◌∙◌}
+use Rattle.std.proofs.Common.{◌≡◌, ℕ, ◌+◌, ◌-◌, Bool, true, false, nat_lt, nat_eq, List, [], ◌∷◌, Option, None, Some, if◌then◌else◌, refl, ap, sym, ◌∙◌}
 use Rattle.std.specs.Prelude.{◌&&◌, fold, is_none}
 use Rattle.qtc_events.specs.Calls.{has_effect}
 use Rattle.qtc_events.specs.declared.calls.Call.{Call}
@@ -13,7 +13,7 @@ use Rattle.qtc_future.specs.Steps.{Stepped, Effect, PastEnd, Counted, accepted, 
 use Rattle.qtc_future.specs.declared.requests.Request.{Request}
 use Rattle.qtc_future.specs.declared.requests.Request.TheVariants.{Start, ReportBatch, AddResult, Account, SetSuspended, ReportSuspended, Cancel, Fail, Finish}
 use Rattle.qtc_kernel.specs.Machine.{Engine, Event, after, ask, claim, fail, is_first_bad, is_out, is_size, is_steering, look, report, run_from, with_claim, with_failure, with_report}
-use Rattle.qtc_kernel.specs.Workload.{Workload, first_bad}
+use Rattle.qtc_kernel.specs.Workload.{Workload, first_bad, item_at, texts_in}
 use Rattle.qtc_job.specs.declared.jobs.Job.{Job}
 use Rattle.qtc_run.specs.Reports.{future_of, is_keep}
 
@@ -82,10 +82,10 @@ event-keeps work engine (claim size) =
     either-engine engine.future (is_size size) (with_claim work engine size) engine (same engine.future) (same engine.future)
 event-keeps work engine (report caller range) =
     either-engine engine.future (is_out engine range && is_none (first_bad work range)) (with_report work engine caller range) engine
-    (step-keeps engine.future caller _) (same engine.future)
+    (step-keeps engine.future caller (ReportBatch range.0 (texts_in work range) (range.1 - range.0))) (same engine.future)
 event-keeps work engine (fail caller range index) =
     either-engine engine.future (is_out engine range && is_first_bad work range index) (with_failure work engine caller range index) engine
-    (step-keeps engine.future caller _) (same engine.future)
+    (step-keeps engine.future caller (Fail index (item_at work index))) (same engine.future)
 event-keeps work engine (ask caller asked) =
     either-engine engine.future (is_steering asked) (record engine { future = (step engine.future caller asked).future }) engine
     (step-keeps engine.future caller asked) (same engine.future)

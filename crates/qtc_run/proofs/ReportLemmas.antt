@@ -1,9 +1,13 @@
 -- The texts of reports, job by job.
-use Rattle.std.proofs.Common.{◌≡◌, ℕ, List, [], ◌∷◌, ◌++◌, length, ◌⊎◌, ⊎_elim, refl, ap, sym, ◌∙◌, append_assoc, append-nil, arith}
+use Rattle.std.proofs.Common.{◌≡◌, ◌<◌, ◌+◌, ℕ, zero, suc, get_or, take, List, [], ◌∷◌, ◌++◌, length, ◌⊎◌, ⊎_elim, refl, ap, sym, ◌∙◌, append_assoc, append-nil, arith}
 use Rattle.std.specs.List.{flat_map, zip}
 use Rattle.qtc_job.specs.declared.jobs.Job.{Job}
 use Rattle.qtc_run.specs.declared.reports.JobReport.{JobReport}
+use Rattle.qtc_run.specs.Laws.{JobsAreReportedInOrder}
+use Rattle.qtc_run.specs.Pairing.{EachPair}
+use Rattle.qtc_run.specs.Reports.{IsReport}
 use Rattle.qtc_run.specs.ReportTexts.{job_text}
+use Rattle.qtc_run.specs.Sources.{work_of}
 
 abbrev pub pair_text : Job × JobReport → List ℕ
 pair_text pair = job_text pair.0.name pair.1
@@ -22,3 +26,43 @@ text-push (j ∷ jobs) [] job done same = absurd (omega arith)
 text-push (j ∷ jobs) (r ∷ reports) job done same =
     ap (λ s. job_text j.name r ++ s) (text-push jobs reports job done (omega arith))
     ∙ sym (append_assoc (job_text j.name r) (flat_map pair_text (zip jobs reports)) (job_text job.name done))
+
+-- ---- jobs and reports, pair by pair
+
+module _ {X Y : Type 0} (R : X → Y → Type 0) where
+  pub pairs-number : (xs : List X) (ys : List Y) → EachPair R xs ys → length ys ≡ length xs
+  pairs-number [] [] all = refl
+  pairs-number [] (y ∷ ys) all = absurd all
+  pairs-number (x ∷ xs) [] all = absurd all
+  pairs-number (x ∷ xs) (y ∷ ys) all = let there = pairs-number xs ys all.1 in omega arith
+
+  pub pairs-at : (xs : List X) (ys : List Y) (place : ℕ) (d : X) (e : Y) → EachPair R xs ys → place < length xs → R (get_or xs place d) (get_or ys place e)
+  pairs-at [] ys place d e all within = absurd (omega arith)
+  pairs-at (x ∷ xs) [] place d e all within = absurd all
+  pairs-at (x ∷ xs) (y ∷ ys) zero d e all within = all.0
+  pairs-at (x ∷ xs) (y ∷ ys) (suc place) d e all within = pairs-at xs ys place d e all.1 (omega arith)
+
+  pub pairs-push : (xs : List X) (ys : List Y) (x : X) (y : Y) → EachPair R xs ys → R x y → EachPair R (xs ++ x ∷ []) (ys ++ y ∷ [])
+  pairs-push [] [] x y all last = (last, tt)
+  pairs-push [] (z ∷ ys) x y all last = absurd all
+  pairs-push (z ∷ xs) [] x y all last = absurd all
+  pairs-push (z ∷ xs) (w ∷ ys) x y all last = (all.0, pairs-push xs ys x y all.1 last)
+
+-- a front with the next one
+pub take-next : {X : Type 0} (xs : List X) (place : ℕ) (x : X) → place < length xs → x ≡ get_or xs place x → take (place + 1) xs ≡ take place xs ++ x ∷ []
+take-next [] place x within is = absurd (omega arith)
+take-next (y ∷ xs) zero x within is = ap (λ z. z ∷ []) (sym is)
+take-next (y ∷ xs) (suc place) x within is =
+    let next : suc place + 1 ≡ suc (place + 1) = omega arith in
+    rw next (ap (λ zs. y ∷ zs) (take-next xs place x (omega arith) is))
+
+-- one job more of a file is reported
+pub pairs-next : {X Y : Type 0} (R : X → Y → Type 0) (xs : List X) (ys zs : List Y) (place : ℕ) (x : X) (y : Y) → place < length xs → x ≡ get_or xs place x → zs ≡ ys ++ y ∷ [] → EachPair R (take place xs) ys → R x y → EachPair R (take (place + 1) xs) zs
+pairs-next R xs ys zs place x y within is more all last =
+    rw (take-next xs place x within is, more) (pairs-push R (take place xs) ys x y all last)
+
+pub stand-by-place : JobsAreReportedInOrder
+stand-by-place texts jobs reports all = record {
+  number = pairs-number (λ job report. IsReport job (work_of texts job) report) jobs reports all;
+  each = λ place d e within. pairs-at (λ job report. IsReport job (work_of texts job) report) jobs reports place d e all within;
+}

@@ -1,15 +1,18 @@
 -- The laws of sources, sequential answers and reports. (Own.)
-use Rattle.std.specs.Prelude.{◌≡◌, ◌≢◌, ℕ, ◌+◌, ◌-◌, ◌<◌, ◌≤◌, ◌==◌, nat_lt, if◌then◌else◌, List, [], ◌∷◌, ◌++◌, All, length, slice_index_or}
+use Rattle.std.specs.Prelude.{◌≡◌, ◌≢◌, ℕ, ◌+◌, ◌-◌, ◌<◌, ◌≤◌, ◌==◌, nat_lt, if◌then◌else◌, List, [], ◌∷◌, ◌++◌, All, IsTrue, None, length, slice_index_or}
 use Rattle.std.specs.List.{concat, count_by}
 use Rattle.qtc_base.specs.Items.{total_bytes}
 use Rattle.qtc_base.specs.Lines.{lines}
 use Rattle.qtc_ops.specs.ItemValue.{bad}
 use Rattle.qtc_future.specs.declared.replies.Outcome.{Outcome}
 use Rattle.qtc_future.specs.declared.replies.Outcome.TheVariants.{Values, Failed, Canceled}
-use Rattle.qtc_kernel.specs.Driving.{called_by}
+use Rattle.qtc_future.specs.Ends.{IsOutcome}
+use Rattle.qtc_future.specs.Future.{Future, events_of, journal_of}
+use Rattle.qtc_kernel.specs.Driving.{IsDriven, called_by, is_filter}
 use Rattle.qtc_kernel.specs.Laws.{IsFailing}
 use Rattle.qtc_kernel.specs.Runs.{times_called}
-use Rattle.qtc_kernel.specs.Workload.{Workload, bad_indexes, item_at, kept_texts, worked_on}
+use Rattle.qtc_kernel.specs.Workload.{Suits, Workload, bad_indexes, item_at, kept_texts, size_of, worked_on}
+use Rattle.qtc_kernel.specs.declared.kinds.Kind.{Kind}
 use Rattle.qtc_job.specs.declared.jobs.Job.{Job}
 use Rattle.qtc_job.specs.declared.jobs.JobFile.{JobFile}
 use Rattle.qtc_job.specs.Grammar.{Reads}
@@ -17,9 +20,10 @@ use Rattle.qtc_job.specs.Lines.{Line}
 use Rattle.qtc_run.specs.Sums.{IsCountable}
 use Rattle.qtc_run.specs.declared.reports.JobReport.{JobReport}
 use Rattle.qtc_run.specs.declared.reports.Report.{Report}
-use Rattle.qtc_run.specs.Reports.{AreReports, IsReport}
+use Rattle.qtc_run.specs.Reports.{AreReports, IsReport, is_keep}
 use Rattle.qtc_run.specs.ReportTexts.{job_text, report_text}
-use Rattle.qtc_run.specs.Sequential.{sequential}
+use Rattle.qtc_run.specs.Runnable.{is_runnable}
+use Rattle.qtc_run.specs.Sequential.{IsSequentialReport, sequential}
 use Rattle.qtc_run.specs.Sources.{Texts, pieces_of, work_of}
 
 -- ---- sources
@@ -88,6 +92,29 @@ pub record ReportsStandByPlace (texts : Texts) (jobs : List Job) (reports : List
 abbrev pub JobsAreReportedInOrder : Type 0
 JobsAreReportedInOrder = (texts : Texts) (jobs : List Job) (reports : List JobReport) →
     AreReports texts jobs reports → ReportsStandByPlace texts jobs reports
+
+-- a report that is made of what a future tells in the end
+pub record IsMadeOf (job : Job) (report : JobReport) (future : Future (List ℕ)) : Type 0 where
+  pub ended : IsOutcome future report.ended
+  pub journal : report.journal ≡ journal_of future
+  pub events : report.events ≡ (if job.watch then events_of future else [])
+  pub partial : report.partial ≡ []
+  pub order : report.order ≡ None
+  pub any : report.any ≡ None
+
+-- what one worker makes of a job that is run so far may be reported, and is the sequential answer
+abbrev pub DrivenJobsAreReported : Type 0
+DrivenJobsAreReported =
+    (job : Job) (work : Workload) (report : JobReport) (kind : Kind) (future : Future (List ℕ)) →
+    IsTrue (is_runnable job) → is_filter kind ≡ is_keep job.op → Suits (is_filter kind) work →
+    size_of work ≤ 8388608 → IsDriven work kind job.blocks future →
+    report.calls ≡ called_by work → IsMadeOf job report future →
+    IsReport job work report × IsSequentialReport work report
+
+-- a job of which no item is bad ends with its kept texts, whoever worked on it
+abbrev pub GoodJobsFinish : Type 0
+GoodJobsFinish = (job : Job) (work : Workload) (report : JobReport) →
+    IsReport job work report → bad_indexes work ≡ [] → report.ended ≡ Values (kept_texts work)
 
 -- every file that the grammar reads can be counted
 abbrev pub ReadFilesCanBeCounted : Type 0

@@ -1,12 +1,11 @@
-ghost use Rattle.std.specs.Prelude.{◌≡◌, [], IsTrue, IfOk, OnOk, IfErr, if◌then◌else◌};
+ghost use Rattle.std.specs.Prelude.{IsTrue, IfOk, OnOk, IfErr};
 ghost use Rattle.qtc_base.specs.Items.{PassesLimit};
-ghost use Rattle.qtc_kernel.specs.Driving.{AreSizes};
 ghost use Rattle.qtc_run.specs.Loaded.{HasAll};
-ghost use Rattle.qtc_run.specs.Reports.{AreReports, IsReport};
-ghost use Rattle.qtc_run.specs.Runnable.{are_runnable, is_runnable};
-ghost use Rattle.qtc_run.specs.Sequential.{AreSequential, IsSequentialReport};
-ghost use Rattle.qtc_run.specs.Sources.{items_of, items_of_all, names_of, names_of_all, work_of};
-ghost use Rattle.qtc_run.specs.Sums.{IsCountable, IsSized, RefusesRun};
+ghost use Rattle.qtc_run.specs.Reports.{AreReports};
+ghost use Rattle.qtc_run.specs.Runnable.{are_runnable};
+ghost use Rattle.qtc_run.specs.Sequential.{AreSequential};
+ghost use Rattle.qtc_run.specs.Sources.{items_of_all, names_of_all};
+ghost use Rattle.qtc_run.specs.Sums.{IsCountable, RefusesRun};
 
 use crate::job_runs::run_job;
 use crate::sums::check_sums;
@@ -38,8 +37,9 @@ pub fn run_file<G: Gate>(
     let mut reports = List::new(alloc);
     for (place, job) in jobs.iter().enumerate() {
         let report = run_job(alloc, place as u32, job, loaded, gate)?;
-        if reports.push(report).is_err() {
-            return Err(RunFault::Memory);
+        match reports.push(report) {
+            Ok(()) => {}
+            Err(_report) => return Err(RunFault::Memory),
         }
     }
     Ok(Report { jobs: reports })

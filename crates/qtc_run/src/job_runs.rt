@@ -9,6 +9,7 @@ ghost use Rattle.qtc_run.specs.Sequential.{IsSequentialReport};
 ghost use Rattle.qtc_run.specs.Sources.{items_of, names_of, work_of};
 ghost use Rattle.qtc_run.specs.Sums.{IsSized};
 
+use crate::laws::driven_jobs_are_reported;
 use crate::sources::items_from;
 use crate::{JobReport, Loaded};
 use qtc_base::{Bytes, List, NoMemory, Value};
@@ -85,6 +86,8 @@ pub fn run_job<G: Gate>(
     let calls = calls_of(alloc, &function)?;
     let journal = journal_of(alloc, &future)?;
     let events = events_of(alloc, &future, job.watch)?;
+    // The proof has from this law that what follows is a report.
+    driven_jobs_are_reported();
     Ok(JobReport {
         ended: future.into_outcome()?,
         partial: List::new(alloc),

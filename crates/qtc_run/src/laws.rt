@@ -1,5 +1,10 @@
 //! What the definitions of `specs/` come to, in other words.
-ghost use Rattle.qtc_run.specs.Laws.{CallsAreOnce, JobsAreReportedInOrder, JobsFailAtTheFirstBad, LinesCountFeeds, PiecesAreTheText, ReportsGoJobByJob, ReadFilesCanBeCounted};
+ghost use Rattle.qtc_run.specs.Laws.{CallsAreOnce, DrivenJobsAreReported, GoodJobsFinish, JobsAreReportedInOrder, JobsFailAtTheFirstBad, LinesCountFeeds, PiecesAreTheText, ReportsGoJobByJob, ReadFilesCanBeCounted};
+
+use qtc_kernel::{
+    accepted_batches_are_right, failures_are_bad_items, futures_are_legal, no_index_is_called_twice,
+    ranges_are_blocks, whole_runs_are_sequential,
+};
 
 /// Each piece but the last has as many bytes as the job says, the last has 1 to as many, and one after the other they
 /// are the text.
@@ -20,6 +25,23 @@ pub fn jobs_fail_at_the_first_bad()
 /// Each index below the number of items worked on is called once, and no other is.
 pub fn calls_are_once()
     ensures { CallsAreOnce }
+{}
+
+/// What one worker makes of a job may be reported, and is the sequential answer.
+pub fn driven_jobs_are_reported()
+    ensures { DrivenJobsAreReported }
+{
+    no_index_is_called_twice();
+    accepted_batches_are_right();
+    ranges_are_blocks();
+    failures_are_bad_items();
+    futures_are_legal();
+    whole_runs_are_sequential();
+}
+
+/// A job of which no item is bad ends with its kept texts, whoever worked on it.
+pub fn good_jobs_finish()
+    ensures { GoodJobsFinish }
 {}
 
 /// One job more at the end of a file appends its text to the report.

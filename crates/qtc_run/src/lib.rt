@@ -15,8 +15,9 @@ mod sums;
 
 pub use file_runs::run_file;
 pub use laws::{
-    calls_are_once, jobs_are_reported_in_order, jobs_fail_at_the_first_bad, lines_count_feeds,
-    pieces_are_the_text, read_files_can_be_counted, reports_go_job_by_job,
+    calls_are_once, driven_jobs_are_reported, good_jobs_finish, jobs_are_reported_in_order,
+    jobs_fail_at_the_first_bad, lines_count_feeds, pieces_are_the_text, read_files_can_be_counted,
+    reports_go_job_by_job,
 };
 pub use loaded::Loaded;
 pub use report_texts::report_text;

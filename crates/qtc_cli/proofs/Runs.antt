@@ -18,10 +18,11 @@ use Rattle.qtc_job.specs.Limits.{most_text as most_job_file}
 use Rattle.qtc_job.specs.Lines.{lines_of}
 use Rattle.qtc_job.specs.declared.jobs.Job.{Job}
 use Rattle.qtc_run.specs.Loaded.{most_text}
-use Rattle.qtc_run.specs.Reports.{reported, has_failed}
+use Rattle.qtc_run.specs.Reports.{has_failed}
 use Rattle.qtc_run.specs.Runnable.{are_runnable}
 use Rattle.qtc_run.specs.Sources.{Texts, items_of, items_of_all}
 use Rattle.qtc_run.specs.Sums.{items_up_to, RefusesRun as JobsStop}
+use Rattle.qtc_run.specs.declared.reports.Report.{Report}
 use Rattle.qtc_run.specs.declared.reports.RunFault.{RunFault}
 use Rattle.qtc_run.specs.declared.reports.RunFault.TheVariants.{TooLarge as ItemsTooLarge, Memory as RunMemory}
 use Rattle.qtc_cli.specs.Answered.{IsDone, KeepsOutside, IsBadJob, HasNoFaults}
@@ -235,8 +236,8 @@ run-complete call can NotYet stops none =
 ran-calm : (name : List ℕ) (old new : Source) (file : JobFile) (texts : Texts) → Ran name old file texts new → IsCalm old new
 ran-calm name old new file texts ran = calm-then old ran.between new ran.file_loads.loads.calm ran.texts_load.calm
 
-run-refused : (call : Seen) (calls : List ℕ) (name : List ℕ) (said : Refusal) → RunsFile call name → RunStops name call.texts said call.texts_after → call.status ≡ status_of said → Hears (line_of said) call.err call.err_after → call.out_after ≡ call.out → calls ≡ [] → RunsAsSaid call calls
-run-refused call calls name said named stops is hears same nothing =
+run-refused : (call : Seen) (report : Option Report) (name : List ℕ) (said : Refusal) → RunsFile call name → RunStops name call.texts said call.texts_after → call.status ≡ status_of said → Hears (line_of said) call.err call.err_after → call.out_after ≡ call.out → report ≡ None → RunsAsSaid call report
+run-refused call report name said named stops is hears same nothing =
     let never = run-never name call.texts call.texts_after said stops in
     record {
       finished = λ done. absurd (not-done call.status said is done);
@@ -250,15 +251,15 @@ run-refused call calls name said named stops is hears same nothing =
       complete = λ can none.
           let same_name = run-name call.words can.name name can.named.0 named.0 can.named.1 named.1 in
           inr (is ∙ run-complete call can said (rw (sym same_name) at stops) none);
-      no_calls = λ _ _. nothing;
+      no_report = λ _ _. nothing;
       outside = keeps-refused call said is hears same (λ away. run-calm name call.texts call.texts_after said stops (λ four. away (is ∙ four)));
     }
 
-one-where : (failed : Bool) (status : ℕ) → status ≡ done_status failed → (status ≡ 1) ↔ (failed ≡ true)
+one-where : (failed : Bool) (status : ℕ) → status ≡ cond failed 1 0 → (status ≡ 1) ↔ (failed ≡ true)
 one-where true status is = (λ _. refl, λ _. is)
 one-where false status is = (λ one. absurd (omega arith), λ e. absurd (true≢false (sym e)))
 
-is-done : (failed : Bool) (status : ℕ) → status ≡ done_status failed → IsDone status
+is-done : (failed : Bool) (status : ℕ) → status ≡ cond failed 1 0 → IsDone status
 is-done true status is = inr is
 is-done false status is = inl is
 
@@ -269,11 +270,10 @@ done-low status done =
       | inr one ↦ omega arith
     ]
 
-run-written : (call : Seen) (calls : List ℕ) (name : List ℕ) (text : List ℕ) (failed : Bool) → RunsFile call name → Forms name call.texts text failed calls call.texts_after → WritesAll text (done_status failed) call.status call.out call.out_after call.err call.err_after → RunsAsSaid call calls
-run-written call calls name text failed named forms w =
-    let done = is-done failed call.status w.status_is in
+run-written : (call : Seen) (report : Option Report) (name : List ℕ) (made : Report) (text : List ℕ) → RunsFile call name → report ≡ Some made → Forms name call.texts made text call.texts_after → WritesAll text (done_status made) call.status call.out call.out_after call.err call.err_after → RunsAsSaid call report
+run-written call report name made text named report_is forms w =
+    let done = is-done (has_failed made) call.status w.status_is in
     let low = done-low call.status done in
-    let fails : (call.status ≡ 1) ↔ IsTrue (has_failed (reported forms.texts forms.file)) = rw forms.failed_is at (one-where failed call.status w.status_is) in
     record {
       finished = λ _. record {
         name = name;
@@ -281,9 +281,12 @@ run-written call calls name text failed named forms w =
         file = forms.file;
         texts = forms.texts;
         ran = forms.ran;
-        writes = rw forms.text_is at w.takes;
-        failed = fails;
-        calls_are = forms.calls_are;
+        made = made;
+        report_is = report_is;
+        text = text;
+        reported = forms.reported;
+        writes = w.takes;
+        failed = one-where (has_failed made) call.status w.status_is;
       };
       usage = (λ two. absurd (omega arith), λ unnamed. absurd (let n = named.1 in cc));
       bad_job = λ three. absurd (omega arith);
@@ -293,12 +296,12 @@ run-written call calls name text failed named forms w =
       not_yet = λ eight. absurd (omega arith);
       only = omega arith;
       complete = λ can none. inl done;
-      no_calls = λ away _. absurd (away done);
+      no_report = λ away _. absurd (away done);
       outside = keeps-done call done w.quiet (ran-calm name call.texts call.texts_after forms.file forms.texts forms.ran);
     }
 
-run-cut : (call : Seen) (calls : List ℕ) (name : List ℕ) (text : List ℕ) (failed : Bool) → RunsFile call name → Forms name call.texts text failed calls call.texts_after → WritesFront text call.status call.out call.out_after call.err call.err_after → RunsAsSaid call calls
-run-cut call calls name text failed named forms w =
+run-cut : (call : Seen) (report : Option Report) (name : List ℕ) (made : Report) (text : List ℕ) → RunsFile call name → report ≡ Some made → Forms name call.texts made text call.texts_after → WritesFront text call.status call.out call.out_after call.err call.err_after → RunsAsSaid call report
+run-cut call report name made text named report_is forms w =
     let five = w.status_is in
     record {
       finished = λ done. absurd (not-done call.status WriteFault five done);
@@ -311,30 +314,33 @@ run-cut call calls name text failed named forms w =
         file = forms.file;
         texts = forms.texts;
         ran = forms.ran;
+        made = made;
+        report_is = report_is;
+        text = text;
+        reported = forms.reported;
         taken = w.taken;
-        front = rw forms.text_is at w.cut;
-        calls_are = forms.calls_are;
+        front = w.cut;
       };
       too_large = λ seven. absurd (omega arith);
       not_yet = λ eight. absurd (omega arith);
       only = omega arith;
       complete = λ can none. absurd (none.out w.cut.rose);
-      no_calls = λ _ away. absurd (away five);
+      no_report = λ _ away. absurd (away five);
       outside = keeps-cut call five w.hears (ran-calm name call.texts call.texts_after forms.file forms.texts forms.ran);
     }
 
-run-call : (call : Seen) (calls : List ℕ) (name : List ℕ) → RunsFile call name → RunEnds name call.texts call.texts_after call.out call.out_after call.err call.err_after call.status calls → RunsAsSaid call calls
-run-call call calls name named ends =
+run-call : (call : Seen) (report : Option Report) (name : List ℕ) → RunsFile call name → RunEnds name call.texts call.texts_after call.out call.out_after call.err call.err_after call.status report → RunsAsSaid call report
+run-call call report name named ends =
     elim ends [
       | inl written ↦ elim written.writes [
-        | inl all ↦ run-written call calls name written.text written.failed named written.forms all
-        | inr front ↦ run-cut call calls name written.text written.failed named written.forms front
+        | inl all ↦ run-written call report name written.made written.text named written.report_is written.forms all
+        | inr front ↦ run-cut call report name written.made written.text named written.report_is written.forms front
       ]
-      | inr refused ↦ run-refused call calls name refused.refused.said named (run-said name call.texts call.texts_after refused.refusal refused.refused.said refused.stops refused.refused.stands) refused.refused.status_is refused.refused.hears refused.untouched refused.no_calls
+      | inr refused ↦ run-refused call report name refused.refused.said named (run-said name call.texts call.texts_after refused.refusal refused.refused.said refused.stops refused.refused.stands) refused.refused.status_is refused.refused.hears refused.untouched refused.no_report
     ]
 
-usage-call : (call : Seen) (calls : List ℕ) → form call.words ≡ None → IsRefused Usage call.status call.err call.err_after → call.texts_after ≡ call.texts → call.out_after ≡ call.out → calls ≡ [] → RunsAsSaid call calls
-usage-call call calls unnamed refused same_texts same_out nothing =
+usage-call : (call : Seen) (report : Option Report) → form call.words ≡ None → IsRefused Usage call.status call.err call.err_after → call.texts_after ≡ call.texts → call.out_after ≡ call.out → report ≡ None → RunsAsSaid call report
+usage-call call report unnamed refused same_texts same_out nothing =
     let said = usage-said refused.said refused.stands in
     let is : call.status ≡ status_of Usage = refused.status_is ∙ ap status_of said in
     record {
@@ -347,23 +353,23 @@ usage-call call calls unnamed refused same_texts same_out nothing =
       not_yet = λ eight. absurd (omega arith);
       only = omega arith;
       complete = λ can none. absurd (let n = can.named.1 in cc);
-      no_calls = λ _ _. nothing;
+      no_report = λ _ _. nothing;
       outside = keeps-refused call Usage is (rw said at refused.hears) same_out (λ _. rw same_texts (calm-same call.texts));
     }
 
 -- ---- the same, with what is seen of a call given one by one
 
-pub run-call-of : (words : List (List ℕ)) (texts texts_after : Source) (out out_after err err_after : Intake) (status : ℕ) (calls name : List ℕ) (workers : Option ℕ) → form words ≡ Some (run workers name) → RunEnds name texts texts_after out out_after err err_after status calls → IsCall (seen words texts texts_after out out_after err err_after status) calls
-run-call-of words texts texts_after out out_after err err_after status calls name workers named ends =
-    rw named (run-call (seen words texts texts_after out out_after err err_after status) calls name (workers, named) ends)
+pub run-call-of : (words : List (List ℕ)) (texts texts_after : Source) (out out_after err err_after : Intake) (status : ℕ) (report : Option Report) (name : List ℕ) (workers : Option ℕ) → form words ≡ Some (run workers name) → RunEnds name texts texts_after out out_after err err_after status report → IsCall (seen words texts texts_after out out_after err err_after status) report
+run-call-of words texts texts_after out out_after err err_after status report name workers named ends =
+    rw named (run-call (seen words texts texts_after out out_after err err_after status) report name (workers, named) ends)
 
-pub check-is-call : (words : List (List ℕ)) (texts texts_after : Source) (out out_after err err_after : Intake) (status : ℕ) (calls name : List ℕ) → form words ≡ Some (check name) → CheckEnds name texts texts_after out out_after err err_after status → calls ≡ [] → IsCall (seen words texts texts_after out out_after err err_after status) calls
-check-is-call words texts texts_after out out_after err err_after status calls name named ends nothing =
+pub check-is-call : (words : List (List ℕ)) (texts texts_after : Source) (out out_after err err_after : Intake) (status : ℕ) (report : Option Report) (name : List ℕ) → form words ≡ Some (check name) → CheckEnds name texts texts_after out out_after err err_after status → report ≡ None → IsCall (seen words texts texts_after out out_after err err_after status) report
+check-is-call words texts texts_after out out_after err err_after status report name named ends nothing =
     rw named (check-call-of words texts texts_after out out_after err err_after status name named ends, nothing)
 
-pub usage-call-of : (words : List (List ℕ)) (texts out_texts : Source) (out out_after err err_after : Intake) (status : ℕ) (calls : List ℕ) → form words ≡ None → IsRefused Usage status err err_after → out_texts ≡ texts → out_after ≡ out → calls ≡ [] → IsCall (seen words texts out_texts out out_after err err_after status) calls
-usage-call-of words texts out_texts out out_after err err_after status calls unnamed refused same_texts same_out nothing =
-    rw unnamed (usage-call (seen words texts out_texts out out_after err err_after status) calls unnamed refused same_texts same_out nothing)
+pub usage-call-of : (words : List (List ℕ)) (texts out_texts : Source) (out out_after err err_after : Intake) (status : ℕ) (report : Option Report) → form words ≡ None → IsRefused Usage status err err_after → out_texts ≡ texts → out_after ≡ out → report ≡ None → IsCall (seen words texts out_texts out out_after err err_after status) report
+usage-call-of words texts out_texts out out_after err err_after status report unnamed refused same_texts same_out nothing =
+    rw unnamed (usage-call (seen words texts out_texts out out_after err err_after status) report unnamed refused same_texts same_out nothing)
 
 -- ---- the items of a run
 

@@ -11,9 +11,11 @@ use Rattle.qtc_job.specs.Grammar.{Reads}
 use Rattle.qtc_job.specs.Limits.{most_text as most_job_file}
 use Rattle.qtc_job.specs.Lines.{lines_of}
 use Rattle.qtc_run.specs.Loaded.{most_text}
-use Rattle.qtc_run.specs.Reports.{reported, report_text, all_calls, has_failed}
+use Rattle.qtc_run.specs.Reports.{IsOutput, has_failed}
 use Rattle.qtc_run.specs.Runnable.{are_runnable}
+use Rattle.qtc_run.specs.Sequential.{AreSequential}
 use Rattle.qtc_run.specs.Sources.{Texts, items_of_all}
+use Rattle.qtc_run.specs.declared.reports.Report.{Report}
 use Rattle.qtc_cli.specs.Answered.{IsDone, KeepsOutside, IsBadJob, HasNoFaults}
 use Rattle.qtc_cli.specs.Check.{IsCheck}
 use Rattle.qtc_cli.specs.Endings.{IsRefused, Writes}
@@ -36,32 +38,38 @@ pub record Ran (name : List ℕ) (old : Source) (file : JobFile) (texts : Texts)
   pub texts_load : LoadsTexts (texts_named file) between texts new
   pub fits : ¬ PassesLimit (items_of_all texts file.jobs)
 
--- what is written: job by job the report of its sequential answer
-abbrev pub written : JobFile → Texts → List ℕ
-written file texts = report_text file (reported texts file)
+-- a report that a run of the file over the texts may make, in which each job has the sequential answer, and its text
+pub record IsReported (file : JobFile) (texts : Texts) (made : Report) (text : List ℕ) : Type 0 where
+  pub output : IsOutput file texts made text
+  pub sequential : AreSequential texts file.jobs made.jobs
 
--- the report was written, it has a failed job exactly where the status is 1, and these were the calls of the jobs'
--- functions
-pub record IsRun (call : Seen) (calls : List ℕ) : Type 0 where
+-- a report was made and its text written; a job of it failed exactly where the status is 1
+pub record IsRun (call : Seen) (report : Option Report) : Type 0 where
   pub name : List ℕ
   pub named : RunsFile call name
   pub file : JobFile
   pub texts : Texts
   pub ran : Ran name call.texts file texts call.texts_after
-  pub writes : Takes call.out (written file texts) call.out_after
-  pub failed : (call.status ≡ 1) ↔ IsTrue (has_failed (reported texts file))
-  pub calls_are : calls ≡ all_calls (reported texts file)
+  pub made : Report
+  pub report_is : report ≡ Some made
+  pub text : List ℕ
+  pub reported : IsReported file texts made text
+  pub writes : Takes call.out text call.out_after
+  pub failed : (call.status ≡ 1) ↔ IsTrue (has_failed made)
 
--- a front of the report was written, and not the whole
-pub record IsRunCut (call : Seen) (calls : List ℕ) : Type 0 where
+-- a report was made, and a front of its text was written, and not the whole
+pub record IsRunCut (call : Seen) (report : Option Report) : Type 0 where
   pub name : List ℕ
   pub named : RunsFile call name
   pub file : JobFile
   pub texts : Texts
   pub ran : Ran name call.texts file texts call.texts_after
+  pub made : Report
+  pub report_is : report ≡ Some made
+  pub text : List ℕ
+  pub reported : IsReported file texts made text
   pub taken : ℕ
-  pub front : IsCut call.out (written file texts) taken call.out_after
-  pub calls_are : calls ≡ all_calls (reported texts file)
+  pub front : IsCut call.out text taken call.out_after
 
 -- the job file was loaded, all of its jobs are run so far, and one of the texts that it names was not loaded
 pub record IsTextRefused (fault : LoadFault) (name : List ℕ) (old new : Source) : Type 0 where
@@ -115,27 +123,27 @@ pub record CanRun (call : Seen) : Type 0 where
   pub fits : ¬ PassesLimit (items_of_all texts file.jobs)
 
 -- what a call of the form run, or of none, comes to
-pub record RunsAsSaid (call : Seen) (calls : List ℕ) : Type 0 where
-  pub finished : IsDone call.status → IsRun call calls
+pub record RunsAsSaid (call : Seen) (report : Option Report) : Type 0 where
+  pub finished : IsDone call.status → IsRun call report
   pub usage : (call.status ≡ 2) ↔ (form call.words ≡ None)
   pub bad_job : call.status ≡ 3 → (name : List ℕ) × RunsFile call name × IsBadJob name call
   pub read_fault : call.status ≡ 4 → (name : List ℕ) × RunsFile call name × IsReadFault name call.texts call.texts_after
-  pub write_fault : call.status ≡ 5 → IsRunCut call calls
+  pub write_fault : call.status ≡ 5 → IsRunCut call report
   pub too_large : call.status ≡ 7 → (name : List ℕ) × RunsFile call name × IsTooLarge name call.texts call.texts_after
   pub not_yet : call.status ≡ 8 → (name : List ℕ) × RunsFile call name × IsNotYet name call.texts call.texts_after
   pub only : call.status ≤ 8
   pub complete : CanRun call → HasNoFaults call → IsDone call.status ⊎ (call.status ≡ 6)
-  pub no_calls : (IsDone call.status → ⊥) → call.status ≢ 5 → calls ≡ []
+  pub no_report : (IsDone call.status → ⊥) → call.status ≢ 5 → report ≡ None
   pub outside : KeepsOutside call
 
-abbrev pub by_form : Option Form → Seen → List ℕ → Type 0
-by_form (Some (check name)) call calls = IsCheck call × (calls ≡ [])
-by_form (Some (run workers name)) call calls = RunsAsSaid call calls
-by_form None call calls = RunsAsSaid call calls
+abbrev pub by_form : Option Form → Seen → Option Report → Type 0
+by_form (Some (check name)) call report = IsCheck call × (report ≡ None)
+by_form (Some (run workers name)) call report = RunsAsSaid call report
+by_form None call report = RunsAsSaid call report
 
 -- a call of the program: check JOB is handed on, and every other is run or refused
-abbrev pub IsCall : Seen → List ℕ → Type 0
-IsCall call calls = by_form (form call.words) call calls
+abbrev pub IsCall : Seen → Option Report → Type 0
+IsCall call report = by_form (form call.words) call report
 
 -- ---- the steps of it
 
@@ -148,34 +156,33 @@ RunStops name old NotYet new = IsNotYet name old new
 RunStops name old Memory new = IsCalm old new
 RunStops name old _ new = ⊥
 
--- what a run formed: its report, whether a job failed, and the calls of the jobs' functions
-pub record Forms (name : List ℕ) (old : Source) (text : List ℕ) (failed : Bool) (calls : List ℕ) (new : Source) : Type 0 where
+-- what a run formed: a report, and its text
+pub record Forms (name : List ℕ) (old : Source) (made : Report) (text : List ℕ) (new : Source) : Type 0 where
   pub file : JobFile
   pub texts : Texts
   pub ran : Ran name old file texts new
-  pub text_is : text ≡ written file texts
-  pub failed_is : failed ≡ has_failed (reported texts file)
-  pub calls_are : calls ≡ all_calls (reported texts file)
+  pub reported : IsReported file texts made text
 
 -- 1 where a job failed
-abbrev pub done_status : Bool → ℕ
-done_status failed = if failed then 1 else 0
+abbrev pub done_status : Report → ℕ
+done_status made = if has_failed made then 1 else 0
 
 -- a report was formed and written; or none was formed, and nothing was written or called
-pub record WritesRun (name : List ℕ) (texts texts_after : Source) (out out_after err err_after : Intake) (status : ℕ) (calls : List ℕ) : Type 0 where
+pub record WritesRun (name : List ℕ) (texts texts_after : Source) (out out_after err err_after : Intake) (status : ℕ) (report : Option Report) : Type 0 where
+  pub made : Report
+  pub report_is : report ≡ Some made
   pub text : List ℕ
-  pub failed : Bool
-  pub forms : Forms name texts text failed calls texts_after
-  pub writes : Writes text (done_status failed) status out out_after err err_after
+  pub forms : Forms name texts made text texts_after
+  pub writes : Writes text (done_status made) status out out_after err err_after
 
-pub record RefusesRun (name : List ℕ) (texts texts_after : Source) (out out_after err err_after : Intake) (status : ℕ) (calls : List ℕ) : Type 0 where
+pub record RefusesRun (name : List ℕ) (texts texts_after : Source) (out out_after err err_after : Intake) (status : ℕ) (report : Option Report) : Type 0 where
   pub refusal : Refusal
   pub stops : RunStops name texts refusal texts_after
   pub refused : IsRefused refusal status err err_after
   pub untouched : out_after ≡ out
-  pub no_calls : calls ≡ []
+  pub no_report : report ≡ None
 
-abbrev pub RunEnds : (name : List ℕ) (texts texts_after : Source) (out out_after err err_after : Intake) (status : ℕ) (calls : List ℕ) → Type 0
-RunEnds name texts texts_after out out_after err err_after status calls =
-    WritesRun name texts texts_after out out_after err err_after status calls
-    ⊎ RefusesRun name texts texts_after out out_after err err_after status calls
+abbrev pub RunEnds : (name : List ℕ) (texts texts_after : Source) (out out_after err err_after : Intake) (status : ℕ) (report : Option Report) → Type 0
+RunEnds name texts texts_after out out_after err err_after status report =
+    WritesRun name texts texts_after out out_after err err_after status report
+    ⊎ RefusesRun name texts texts_after out out_after err err_after status report

@@ -1,4 +1,4 @@
-ghost use Rattle.std.specs.Prelude.{◌≡◌, [], map, string_bytes, IfOk, IfErr};
+ghost use Rattle.std.specs.Prelude.{◌≡◌, None, map, string_bytes, IfOk, IfErr};
 ghost use Rattle.qtc_cli.specs.Endings.{IsRefused};
 ghost use Rattle.qtc_cli.specs.Run.{Forms, RunStops, RunEnds, IsCall};
 ghost use Rattle.qtc_cli.specs.Seen.{seen};
@@ -8,9 +8,9 @@ use crate::command_forms::{Task, command_of};
 use crate::endings::{refuse, write_text};
 use crate::loads::{load_file, load_texts};
 use crate::refusals::Refusal;
-use qtc_base::{Bytes, List};
+use qtc_base::Bytes;
 use qtc_outside::{Gate, Sink, Texts};
-use qtc_run::{is_runnable, report_text, run_file};
+use qtc_run::{Report, is_runnable, report_text, run_file};
 use std::alloc::Global;
 
 /// How a call of the program ended.
@@ -19,16 +19,15 @@ pub struct Ended {
     /// 0 where all was written, and 1 where a job failed too; else why not: 2 usage, 3 bad job file, 4 read
     /// fault, 5 write fault, 6 out of memory, 7 too large, 8 not yet.
     pub status: u8,
-    /// The indexes that the jobs' functions were called on, one job after the other, where a report was formed.
-    pub calls: List<u32>,
+    /// What was reported, where the text of a report was formed.
+    pub report: Option<Report>,
 }
 
 /// What a run forms before it writes.
 #[derive(Drop)]
 struct Formed {
+    report: Report,
     text: Bytes,
-    failed: bool,
-    calls: List<u32>,
 }
 
 /// Loads the job file and the texts that it names, runs its jobs, and forms the report.
@@ -38,7 +37,7 @@ fn form_run<T: Texts, G: Gate>(
     texts: &mut T,
     gate: &G,
 ) -> Result<Formed, Refusal>
-    ensures ok { IfOk result (λ f. Forms name.now (T.source texts.old) f.text f.failed f.calls (T.source texts.new)) }
+    ensures ok { IfOk result (λ f. Forms name.now (T.source texts.old) f.report f.text (T.source texts.new)) }
     ensures err { IfErr result (λ refusal. RunStops name.now (T.source texts.old) refusal (T.source texts.new)) }
 {
     let file = load_file(alloc, texts, name)?;
@@ -51,13 +50,7 @@ fn form_run<T: Texts, G: Gate>(
         Err(fault) => return Err(Refusal::from(fault)),
     };
     let text = report_text(alloc, &file, &report)?;
-    let failed = report.has_failed();
-    let calls = report.into_calls(alloc)?;
-    Ok(Formed {
-        text,
-        failed,
-        calls,
-    })
+    Ok(Formed { report, text })
 }
 
 /// Runs the job file under a name, and writes its report.
@@ -70,14 +63,14 @@ fn run_named<T: Texts, S: Sink, E: Sink, G: Gate>(
     gate: &G,
 ) -> Ended
     ensures { RunEnds name.now (T.source texts.old) (T.source texts.new) (S.intake out.old) (S.intake out.new)
-        (E.intake err.old) (E.intake err.new) result.status result.calls }
+        (E.intake err.old) (E.intake err.new) result.status result.report }
 {
     match form_run(alloc, name, texts, gate) {
         Ok(formed) => {
-            let done = if formed.failed { 1 } else { 0 };
+            let done = if formed.report.has_failed() { 1 } else { 0 };
             Ended {
                 status: write_text(alloc, formed.text.as_slice(), done, out, err),
-                calls: formed.calls,
+                report: Some(formed.report),
             }
         }
         Err(refusal) => Ended::refused(alloc, refusal, err),
@@ -88,11 +81,11 @@ impl Ended {
     /// Tells a refusal.
     fn refused<E: Sink>(alloc: Global, refusal: Refusal, err: &mut E) -> Ended
         ensures told { IsRefused refusal result.status (E.intake err.old) (E.intake err.new) }
-        ensures calls { result.calls ≡ [] }
+        ensures no_report { result.report ≡ None }
     {
         Ended {
             status: refuse(alloc, refusal, err),
-            calls: List::new(alloc),
+            report: None,
         }
     }
 }
@@ -109,7 +102,7 @@ pub fn run_words<T: Texts, S: Sink, E: Sink, G: Gate>(
     gate: &G,
 ) -> Ended
     ensures { IsCall (seen (map string_bytes words.now) (T.source texts.old) (T.source texts.new) (S.intake out.old)
-        (S.intake out.new) (E.intake err.old) (E.intake err.new) result.status) result.calls }
+        (S.intake out.new) (E.intake err.old) (E.intake err.new) result.status) result.report }
 {
     let Some(command) = command_of(words) else {
         return Ended::refused(alloc, Refusal::Usage, err);
@@ -117,7 +110,7 @@ pub fn run_words<T: Texts, S: Sink, E: Sink, G: Gate>(
     match command.task {
         Task::Check => Ended {
             status: check_named(alloc, command.job, texts, out, err),
-            calls: List::new(alloc),
+            report: None,
         },
         Task::Run(_) => run_named(alloc, command.job, texts, out, err, gate),
     }

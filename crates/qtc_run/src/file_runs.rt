@@ -1,4 +1,4 @@
-ghost use Rattle.std.specs.Prelude.{IsTrue, IfOk, OnOk, IfErr};
+ghost use Rattle.std.specs.Prelude.{◌≡◌, length, IsTrue, IfOk, OnOk, IfErr};
 ghost use Rattle.qtc_base.specs.Items.{PassesLimit};
 ghost use Rattle.qtc_run.specs.Loaded.{HasAll};
 ghost use Rattle.qtc_run.specs.Reports.{AreReports};
@@ -29,6 +29,7 @@ pub fn run_file<G: Gate>(
     requires loaded { HasAll loaded.now (names_of_all file.now.jobs) }
     ensures reports { IfOk result (λ report. AreReports loaded.now file.now.jobs report.jobs) }
     ensures sequential { IfOk result (λ report. AreSequential loaded.now file.now.jobs report.jobs) }
+    ensures number { IfOk result (λ report. length report.jobs ≡ length file.now.jobs) }
     ensures fits { OnOk result (¬ PassesLimit (items_of_all loaded.now file.now.jobs)) }
     ensures too_large { IfErr result (RefusesRun loaded.now file.now.jobs) }
 {

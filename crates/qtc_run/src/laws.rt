@@ -2,8 +2,8 @@
 ghost use Rattle.qtc_run.specs.Laws.{CallsAreOnce, DrivenJobsAreReported, GoodJobsFinish, JobsAreReportedInOrder, JobsFailAtTheFirstBad, LinesCountFeeds, PiecesAreTheText, ReportsGoJobByJob, ReadFilesCanBeCounted};
 
 use qtc_kernel::{
-    accepted_batches_are_right, failures_are_bad_items, futures_are_legal, no_index_is_called_twice,
-    ranges_are_blocks, whole_runs_are_sequential,
+    accepted_batches_are_right, failures_are_bad_items, futures_are_legal,
+    no_index_is_called_twice, ranges_are_blocks, whole_runs_are_sequential,
 };
 
 /// Each piece but the last has as many bytes as the job says, the last has 1 to as many, and one after the other they

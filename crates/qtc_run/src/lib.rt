@@ -12,6 +12,8 @@ mod runnable;
 mod sizes;
 mod sources;
 mod sums;
+#[cfg(test)]
+mod tests;
 
 pub use file_runs::run_file;
 pub use laws::{

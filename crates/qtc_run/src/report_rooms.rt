@@ -61,7 +61,9 @@ fn order_room(order: &Option<List<u32>>) -> usize {
         Some(begins) => begins.len(),
         None => 0,
     };
-    begins.saturating_mul(11).saturating_add(b"order\nany \n".len() + 10)
+    begins
+        .saturating_mul(11)
+        .saturating_add(b"order\nany \n".len() + 10)
 }
 
 /// The whole report.

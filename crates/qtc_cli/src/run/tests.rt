@@ -2,7 +2,7 @@ ghost use Rattle.std.specs.Prelude.{◌≢◌};
 
 use super::*;
 use crate::check::check_words;
-use qtc_base::NoMemory;
+use qtc_base::{List, NoMemory};
 use qtc_outside::{MemSink, MemTexts, NoGate, SureSink, SureTexts};
 use std::alloc::AllocError;
 use std::test::Fail;
@@ -288,8 +288,19 @@ fn run_surely(
     run_words(alloc, words, texts, out, err, &NoGate)
 }
 
+/// The calls of the jobs that were reported, one job after the other.
+fn calls_of(alloc: Global, ended: &Ended) -> Result<Vec<u32>, AllocError> {
+    let mut calls = Vec::new(alloc);
+    if let Some(report) = &ended.report {
+        for job in report.jobs.as_slice() {
+            calls.extend_from_slice(job.calls.as_slice())?;
+        }
+    }
+    Ok(calls)
+}
+
 #[test]
-fn the_calls_of_all_jobs_stand_in_order(rt: HostRuntime) -> Result<(), Fail> {
+fn the_jobs_are_reported_in_order(rt: HostRuntime) -> Result<(), Fail> {
     let alloc = rt.alloc();
     let words = word_list(alloc, RUN)?;
     let file = b"job a\ninput lines t\nmap digest\njob b\ninput pieces 2 t\nmap number\n";
@@ -299,7 +310,10 @@ fn the_calls_of_all_jobs_stand_in_order(rt: HostRuntime) -> Result<(), Fail> {
     let mut err = SureSink::new(alloc, 0)?;
     let ended = run_surely(alloc, &words, &mut texts, &mut out, &mut err);
     assert_eq!(rt; ended.status, 1);
-    assert_eq!(rt; ended.calls.as_slice(), [0, 1, 0, 1].as_slice());
+    assert_eq!(rt;
+        calls_of(alloc, &ended)?.as_slice(),
+        [0, 1, 0, 1].as_slice()
+    );
     Ok(())
 }
 
@@ -315,7 +329,7 @@ fn a_fault_of_the_sink_leaves_a_front(rt: HostRuntime) -> Result<(), Fail> {
     let mut err = MemSink::new(alloc, 100, List::new(alloc));
     let ended = run_words(alloc, &words, &mut texts, &mut out, &mut err, &NoGate);
     assert_eq!(rt; ended.status, 5);
-    assert_eq!(rt; ended.calls.as_slice(), [0].as_slice());
+    assert_eq!(rt; calls_of(alloc, &ended)?.as_slice(), [0].as_slice());
     assert_eq!(rt; out.text(), b"job ".as_slice());
     assert_eq!(rt; err.text(), b"qtc: write fault\n".as_slice());
     Ok(())
@@ -332,6 +346,7 @@ fn faults_of_the_error_sink_change_nothing(rt: HostRuntime) -> Result<(), Fail> 
     let mut err = MemSink::new(alloc, 5, fails);
     let ended = run_words(alloc, &words, &mut texts, &mut out, &mut err, &NoGate);
     assert_eq!(rt; ended.status, 2);
+    assert!(rt; ended.report.is_none());
     assert_eq!(rt; out.text(), b"".as_slice());
     assert_eq!(rt; err.text(), b"qtc: ".as_slice());
     Ok(())

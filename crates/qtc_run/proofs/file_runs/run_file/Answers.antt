@@ -1,4 +1,5 @@
-use Rattle.std.proofs.Common.{List, sym, subst}
+use Rattle.std.proofs.Common.{List, ◌+◌, length, ap, sym, subst, ◌∙◌}
+use Rattle.std.proofs.lemmas.List.{length_push}
 use Rattle.qtc_job.specs.declared.jobs.Job.{Job}
 use Rattle.qtc_run.specs.Loaded.{HasAll}
 use Rattle.qtc_run.specs.Reports.{IsReport}
@@ -20,7 +21,8 @@ run_job-requires-clause-fits g c κs outlives =
 pub loop-place-preserved : goal.loop-place-preserved
 loop-place-preserved g c = record {
   reports = pairs-next (λ job report. IsReport job (work_of c.args.loaded.now job) report) c.as_slice-jobs.result.now c.loop-place.reports c.push.new.self c.loop-place.place c.index-jobs-place.result c.in_ok-report.report
-  c.loop-place-test.true c.index-jobs-place.is c.in-Ok.ensures.ok c.loop-place.invariant.reports c.in_ok-report.ensures.report;
+      c.loop-place-test.true c.index-jobs-place.is c.in-Ok.ensures.ok c.loop-place.invariant.reports c.in_ok-report.ensures.report;
   sequential = pairs-next (λ job report. IsSequentialReport (work_of c.args.loaded.now job) report) c.as_slice-jobs.result.now c.loop-place.reports c.push.new.self c.loop-place.place c.index-jobs-place.result c.in_ok-report.report
-  c.loop-place-test.true c.index-jobs-place.is c.in-Ok.ensures.ok c.loop-place.invariant.sequential c.in_ok-report.ensures.sequential;
+      c.loop-place-test.true c.index-jobs-place.is c.in-Ok.ensures.ok c.loop-place.invariant.sequential c.in_ok-report.ensures.sequential;
+  number = ap length c.in-Ok.ensures.ok ∙ (length_push c.loop-place.reports c.in_ok-report.report ∙ ap (λ n. n + 1) c.loop-place.invariant.number);
 }

@@ -10,4 +10,4 @@ pub returns : goal.returns
 returns c =
     sure-call
     (seen (map string_bytes c.args.words.now) (sure_source c.args.texts.now) (sure_source c.run_words.new.texts) (sure_intake c.args.out.now) (sure_intake c.run_words.new.out) (sure_intake c.args.err.now) (sure_intake c.run_words.new.err) c.run_words.result.status)
-    c.run_words.result.calls c.run_words.ensures refl refl refl refl
+    c.run_words.result.report c.run_words.ensures refl refl refl refl

@@ -1,0 +1,328 @@
+ghost use Rattle.std.specs.Prelude.{◌≡◌, ◌∷◌, [], ◌++◌, ◌≤◌, IsTrue, length, is_some, IfOk};
+ghost use Rattle.std.specs.List.{list_all};
+ghost use Rattle.qtc_run.specs.Sums.{IsCountable};
+ghost use Rattle.qtc_outside.specs.Shelf.{text_under};
+ghost use Rattle.qtc_run.specs.Loaded.{HasAll};
+ghost use Rattle.qtc_run.specs.Sources.{names_of, names_of_all};
+
+use crate::{
+    JobReport, Loaded, Placed, Report, RunFault, is_runnable, report_text, run_file, texts_named,
+};
+use qtc_base::{Bytes, List, NoMemory};
+use qtc_events::{Call, Entry, Event, Reached};
+use qtc_future::Outcome;
+use qtc_job::{Job, JobFile, parse};
+use qtc_outside::{Gate, NoGate};
+use std::alloc::Global;
+use std::process::Abort;
+use std::sync::atomic::{AtomicU32, Ordering};
+use std::test::Fail;
+
+mod plain;
+
+fn load(rt: &impl Abort, alloc: Global, texts: &[(&[u8], &[u8])]) -> Result<Loaded, NoMemory> {
+    let mut loaded = Loaded::new(alloc);
+    for (name, text) in texts {
+        assert!(rt; loaded.get(name).is_none());
+        assert!(rt; text.len() <= 67_108_864);
+        let name = Bytes::from_slice(alloc, name)?;
+        loaded.add(name, Bytes::from_slice(alloc, text)?)?;
+    }
+    Ok(loaded)
+}
+
+fn has_texts(job: &Job, loaded: &Loaded) -> bool
+    ensures { result ≡ list_all (λ name. is_some (text_under loaded.now name)) (names_of job.now.input) }
+{
+    texts_named(&job.input)
+        .iter()
+        .all(|name| loaded.get(name.as_slice()).is_some())
+}
+
+fn has_all(file: &JobFile, loaded: &Loaded) -> bool
+    ensures { IsTrue result → HasAll loaded.now (names_of_all file.now.jobs) }
+{
+    for job in file.jobs.as_slice() {
+        if !has_texts(job, loaded) {
+            return false;
+        }
+    }
+    true
+}
+
+fn read(rt: &impl Abort, alloc: Global, text: &[u8]) -> Result<JobFile, Fail>
+    ensures { IfOk result IsCountable }
+{
+    assert!(rt; text.len() <= 1_048_576);
+    Ok(parse(alloc, text)?)
+}
+
+// What a job file reports over texts, with the text of it.
+fn run<G: Gate>(
+    rt: &impl Abort,
+    alloc: Global,
+    text: &[u8],
+    texts: &[(&[u8], &[u8])],
+    gate: &G,
+) -> Result<(Report, Bytes), Fail> {
+    let file = read(rt, alloc, text)?;
+    let loaded = load(rt, alloc, texts)?;
+    assert!(rt; is_runnable(&file));
+    assert!(rt; has_all(&file, &loaded));
+    let report = run_file(alloc, &file, &loaded, gate)?;
+    let text = report_text(alloc, &file, &report)?;
+    Ok((report, text))
+}
+
+// Whether the jobs of a file over texts finish, with this report.
+fn finishes(
+    rt: &impl Abort,
+    alloc: Global,
+    file: &[u8],
+    texts: &[(&[u8], &[u8])],
+    want: &[u8],
+) -> Result<bool, Fail> {
+    let (report, text) = run(rt, alloc, file, texts, &NoGate)?;
+    Ok(text.as_slice() == want && !report.has_failed())
+}
+
+#[test]
+fn jobs_over_one_text_are_reported(rt: HostRuntime) -> Result<(), Fail> {
+    for (file, text, want) in [
+        (
+            b"job a\ninput lines t\nmap digest\n".as_slice(),
+            b"abc\n\n".as_slice(),
+            b"job a finished 2\nba7816bf8f01cfea414140de5dae2223b00361a396177a9cb410ff61f20015ad\ne3b0c44298fc1c149afbf4c8996fb92427ae41e4649b934ca495991b7852b855\n".as_slice(),
+        ),
+        (
+            b"job a\ninput lines t\nmap same\nblocks 65536\n",
+            b"a\nb\nc\nd\ne\n",
+            b"job a finished 5\na\nb\nc\nd\ne\n",
+        ),
+        (
+            b"job a\ninput lines t\nfilter contains x\nblocks 3\n",
+            b"a\na\na\na\na\na\na\n",
+            b"job a finished 0\n",
+        ),
+        (
+            b"job a\ninput lines t\nfilter not contains a\n",
+            b"a\nb\nab\nc",
+            b"job a finished 2\nb\nc\n",
+        ),
+        (
+            b"job a\ninput pieces 3 t\nmap length\n",
+            b"abcdefg",
+            b"job a finished 3\n3\n3\n1\n",
+        ),
+        (
+            b"job a\ninput lines t\nmap same\njob b\ninput pieces 1 t\nmap same\n",
+            b"",
+            b"job a finished 0\njob b finished 0\n",
+        ),
+    ] {
+        assert!(rt; finishes(&rt, rt.alloc(), file, &[(b"t".as_slice(), text)], want)?);
+    }
+    Ok(())
+}
+
+#[test]
+fn texts_are_found_by_their_names(rt: HostRuntime) -> Result<(), Fail> {
+    let alloc = rt.alloc();
+    assert!(rt; finishes(&rt, alloc, b"", &[], b"")?);
+    let file = b"job a\ninput files t u\\x20v t\nmap length\n";
+    let texts = [(b"t".as_slice(), b"ab\nc".as_slice()), (b"u v", b"")];
+    assert!(rt; finishes(&rt, alloc, file, &texts, b"job a finished 3\n4\n0\n4\n")?);
+    let file = b"job a\ninput lines \xc3\xa4\nmap same\n";
+    let texts = [(b"\xc3\xa4".as_slice(), b"\xc3\xa4\t\\\nb\n".as_slice())];
+    let want = b"job a finished 2\n\xc3\xa4\\x09\\x5c\nb\n";
+    assert!(rt; finishes(&rt, alloc, file, &texts, want)?);
+    Ok(())
+}
+
+#[test]
+fn jobs_fail_with_their_first_bad_item(rt: HostRuntime) -> Result<(), Fail> {
+    for (file, text, want, calls) in [
+        (
+            b"job a\ninput lines t\nmap number\n".as_slice(),
+            b"1\nx".as_slice(),
+            b"job a failed 1 x\n".as_slice(),
+            [0, 1].as_slice(),
+        ),
+        (
+            b"job a\ninput lines t\nmap number\n",
+            b"007\n\t\\\xff\nx\n",
+            b"job a failed 1 \\x09\\x5c\xff\n",
+            [0, 1].as_slice(),
+        ),
+        (
+            b"job a\ninput lines t\nmap number\njob b\ninput lines t\nfilter contains 7\n",
+            b"\n7\n77\n",
+            b"job a failed 0 \njob b finished 2\n7\n77\n",
+            [0, 0, 1, 2].as_slice(),
+        ),
+    ] {
+        let texts = [(b"t".as_slice(), text)];
+        let (report, written) = run(&rt, rt.alloc(), file, &texts, &NoGate)?;
+        assert_eq!(rt; written.as_slice(), want);
+        assert!(rt; report.has_failed());
+        let mut called = Vec::new(rt.alloc());
+        for job in report.jobs.as_slice() {
+            called.extend_from_slice(job.calls.as_slice())?;
+        }
+        assert_eq!(rt; called.as_slice(), calls);
+    }
+    Ok(())
+}
+
+#[test]
+fn a_text_that_two_jobs_read_counts_twice(rt: HostRuntime) -> Result<(), Fail> {
+    let alloc = rt.alloc();
+    let mut text = Bytes::with_capacity(alloc, 5_000_000)?;
+    for _ in 0..5_000 {
+        text.append(&[b'\n'; 1000])?;
+    }
+    let file = read(
+        &rt,
+        alloc,
+        b"job a\ninput lines t\nmap same\njob b\ninput lines t\nmap same\n",
+    )?;
+    let loaded = load(&rt, alloc, &[(b"t".as_slice(), text.as_slice())])?;
+    assert!(rt; is_runnable(&file));
+    assert!(rt; has_all(&file, &loaded));
+    let want = RunFault::TooLarge {
+        job: 1,
+        items: 10_000_000,
+        bytes: 0,
+    };
+    assert!(rt; matches!(run_file(alloc, &file, &loaded, &NoGate), Err(fault) if fault == want));
+    Ok(())
+}
+
+#[test]
+fn other_jobs_are_not_run_yet(rt: HostRuntime) -> Result<(), Fail> {
+    for line in [
+        b"reduce count\n".as_slice(),
+        b"cancel-after 1\n",
+        b"suspend-after 1\n",
+        b"watch\n",
+        b"then sorted\n",
+    ] {
+        let mut text = Bytes::from_slice(rt.alloc(), b"job a\ninput lines t\nmap same\n")?;
+        text.append(line)?;
+        assert!(rt; !is_runnable(&read(&rt, rt.alloc(), text.as_slice())?));
+    }
+    let text = b"job a\ninput lines t\nmap same\njob b\ninput job a\nmap same\n";
+    assert!(rt; !is_runnable(&read(&rt, rt.alloc(), text)?));
+    Ok(())
+}
+
+// Counts its entries, and those that don't come by job and then by ascending index, three indexes a job.
+#[derive(Drop)]
+struct Recorder {
+    entries: AtomicU32,
+    wrong: AtomicU32,
+}
+
+impl Gate for Recorder {
+    fn enter(&self, job: u32, index: u32) {
+        let before = self.entries.fetch_add(1, Ordering::SeqCst);
+        if job != before / 3 || index != before % 3 {
+            self.wrong.fetch_add(1, Ordering::SeqCst);
+        }
+    }
+}
+
+#[test]
+fn the_gate_is_entered_with_each_job_and_index(rt: HostRuntime) -> Result<(), Fail> {
+    let gate = Recorder {
+        entries: AtomicU32::new(0),
+        wrong: AtomicU32::new(0),
+    };
+    let file =
+        b"job a\ninput lines t\nmap same\nblocks 2\njob b\ninput pieces 1 u\nfilter contains b\n";
+    let texts = [(b"t".as_slice(), b"a\n\nb".as_slice()), (b"u", b"abc")];
+    run(&rt, rt.alloc(), file.as_slice(), &texts, &gate)?;
+    assert_eq!(rt; gate.entries.load(Ordering::SeqCst), 6);
+    assert_eq!(rt; gate.wrong.load(Ordering::SeqCst), 0);
+    Ok(())
+}
+
+#[test]
+fn blocks_are_reported_in_turn(rt: HostRuntime) -> Result<(), Fail> {
+    let file = b"job a\ninput lines t\nfilter longer 0\nblocks 2 1\n";
+    let texts = [(b"t".as_slice(), b"a\nb\n\nc\nd".as_slice())];
+    let (report, _) = run(&rt, rt.alloc(), file.as_slice(), &texts, &NoGate)?;
+    let entry = |call| Entry {
+        caller: 0,
+        call,
+        reached: Reached::Nothing,
+    };
+    let block = |begin, kept, total| entry(Call::Report { begin, kept, total });
+    let want = [
+        entry(Call::Start),
+        block(0, 2, 2),
+        block(2, 0, 1),
+        block(3, 2, 2),
+        entry(Call::Finish),
+    ];
+    for job in report.jobs.as_slice() {
+        assert_eq!(rt; job.journal.as_slice(), want.as_slice());
+        assert!(rt; job.events.is_empty());
+    }
+    Ok(())
+}
+
+// A report of one job that no run gives so far.
+fn written(alloc: Global, job: JobReport) -> Result<Bytes, Fail> {
+    let file = parse(alloc, b"job a\ninput lines t\nmap same\n")?;
+    let mut jobs = List::new(alloc);
+    if jobs.push(job).is_err() {
+        return Err(Fail::from(NoMemory));
+    }
+    let report = Report { jobs };
+    if report.jobs.len() != file.jobs.len() {
+        return Ok(Bytes::new(alloc));
+    }
+    Ok(report_text(alloc, &file, &report)?)
+}
+
+#[test]
+fn other_outcomes_and_lines_are_written(rt: HostRuntime) -> Result<(), Fail> {
+    let alloc = rt.alloc();
+    let mut partial = List::new(alloc);
+    for (index, value) in [(0, b"x".as_slice()), (10, b"\\")] {
+        let value = Bytes::from_slice(alloc, value)?;
+        assert!(rt; partial.push(Placed { index, value }).is_ok());
+    }
+    let order = List::from_vec(Vec::from_slice(alloc, &[2, 0])?);
+    let events = Vec::from_slice(
+        alloc,
+        &[Event::Started, Event::Ready(0, 2), Event::Canceled],
+    )?;
+    let job = JobReport {
+        ended: Outcome::Canceled,
+        partial,
+        order: Some(order),
+        any: Some(3),
+        calls: List::new(alloc),
+        journal: List::new(alloc),
+        events: List::from_vec(events),
+    };
+    let want =
+        b"job a canceled 2\n0 x\n10 \\x5c\norder 2 0\nany 3\nevent started\nevent ready 0 2\nevent canceled\n";
+    assert_eq!(rt; written(alloc, job)?.as_slice(), want.as_slice());
+    let job = JobReport {
+        ended: Outcome::Values(List::new(alloc)),
+        partial: List::new(alloc),
+        order: Some(List::new(alloc)),
+        any: None,
+        calls: List::new(alloc),
+        journal: List::new(alloc),
+        events: List::new(alloc),
+    };
+    assert_eq!(rt;
+        written(alloc, job)?.as_slice(),
+        b"job a finished 0\norder\n".as_slice()
+    );
+    Ok(())
+}

@@ -168,21 +168,24 @@ abbrev pub done_status : Report → ℕ
 done_status made = if has_failed made then 1 else 0
 
 -- a report was formed and written; or none was formed, and nothing was written or called
-pub record WritesRun (name : List ℕ) (texts texts_after : Source) (out out_after err err_after : Intake) (status : ℕ) (report : Option Report) : Type 0 where
+pub record WritesRun (name : List ℕ) (texts texts_after : Source) (out out_after err err_after : Intake) (status : ℕ)
+    (report : Option Report) : Type 0 where
   pub made : Report
   pub report_is : report ≡ Some made
   pub text : List ℕ
   pub forms : Forms name texts made text texts_after
   pub writes : Writes text (done_status made) status out out_after err err_after
 
-pub record RefusesRun (name : List ℕ) (texts texts_after : Source) (out out_after err err_after : Intake) (status : ℕ) (report : Option Report) : Type 0 where
+pub record RefusesRun (name : List ℕ) (texts texts_after : Source) (out out_after err err_after : Intake) (status : ℕ)
+    (report : Option Report) : Type 0 where
   pub refusal : Refusal
   pub stops : RunStops name texts refusal texts_after
   pub refused : IsRefused refusal status err err_after
   pub untouched : out_after ≡ out
   pub no_report : report ≡ None
 
-abbrev pub RunEnds : (name : List ℕ) (texts texts_after : Source) (out out_after err err_after : Intake) (status : ℕ) (report : Option Report) → Type 0
+abbrev pub RunEnds : (name : List ℕ) (texts texts_after : Source) (out out_after err err_after : Intake) (status : ℕ)
+    (report : Option Report) → Type 0
 RunEnds name texts texts_after out out_after err err_after status report =
     WritesRun name texts texts_after out out_after err err_after status report
     ⊎ RefusesRun name texts texts_after out out_after err err_after status report

@@ -63,8 +63,8 @@ pub record LetsGoOn (entry : Entry) : Type 0 where
   pub call : cancels entry.call ≡ false
   pub threshold : cancels_by_threshold entry.reached ≡ false
 
--- the reported ranges lie below n and meet nowhere, each is one of the job's blocks, the function was called on its indexes,
--- and its values are what is kept of its items
+-- the reported ranges lie below n and meet nowhere, each is one of the job's blocks, the function was called on its
+-- indexes, and its values are what is kept of its items
 pub record AreReported (job : Job) (work : Workload) (calls : List ℕ) (future : Future (List ℕ)) : Type 0 where
   pub apart : (index : ℕ) → times_covered (reported_ranges future) index ≤ 1
   pub within : (index : ℕ) → size_of work ≤ index → times_covered (reported_ranges future) index ≡ 0
@@ -74,9 +74,10 @@ pub record AreReported (job : Job) (work : Workload) (calls : List ℕ) (future 
 
 -- ---- how a job ended
 
--- with the values of the sequential answer: no item is bad, no threshold was to be reached, each index was called once, the
--- reported ranges tile the items, and nothing canceled the job
-pub record HasValues (job : Job) (work : Workload) (report : JobReport) (future : Future (List ℕ)) (values : List (List ℕ)) : Type 0 where
+-- with the values of the sequential answer: no item is bad, no threshold was to be reached, each index was called once,
+-- the reported ranges tile the items, and nothing canceled the job
+pub record HasValues (job : Job) (work : Workload) (report : JobReport) (future : Future (List ℕ))
+    (values : List (List ℕ)) : Type 0 where
   pub values_are : values ≡ kept_texts work
   pub good : bad_indexes work ≡ []
   pub unreached : (job.cancel_after ≡ 0) ⊎ (size_of work < job.cancel_after)
@@ -84,7 +85,7 @@ pub record HasValues (job : Job) (work : Workload) (report : JobReport) (future 
   pub tiled : Tiles (reported_ranges future) (size_of work)
   pub going : All LetsGoOn report.journal
 
--- with a bad item, which is that of the failure in the journal
+-- with a bad item; the journal has the failure, with this index and item
 pub record HasFailure (work : Workload) (future : Future (List ℕ)) (failure : Failure) : Type 0 where
   pub failing : IsFailing work failure
   pub kept : failure_of future ≡ Some failure
@@ -97,8 +98,8 @@ EndsWith job work report future Canceled = ⊥
 
 -- ---- reports
 
--- what a job over these items may report: its journal is that of a list of effective calls on a new future, and outcome,
--- calls, journal and events fit each other
+-- what a job over these items may report: its journal is that of a list of effective calls on a new future, and
+-- outcome, calls, journal and events fit each other
 pub record IsReport (job : Job) (work : Workload) (report : JobReport) : Type 0 where
   pub logged : List (Logged (List ℕ))
   pub legal : IsLegal (future_of job logged)
@@ -127,6 +128,6 @@ abbrev pub is_unfinished : Outcome (List ℕ) → Bool
 is_unfinished (Values values) = false
 is_unfinished _ = true
 
--- whether a job failed or was canceled
+-- whether a job has no values: it failed or was canceled
 abbrev pub has_failed : Report → Bool
 has_failed report = list_any (λ job. is_unfinished job.ended) report.jobs

@@ -17,8 +17,8 @@ ended_with work (index ∷ others) = Failed (record { index = index; item = item
 abbrev pub sequential : Workload → Outcome (List ℕ)
 sequential work = ended_with work (bad_indexes work)
 
--- what one worker reports of a job: it ended with the sequential answer, and the indexes were called in order, up to the
--- first bad one
+-- what one worker reports of a job: it ended with the sequential answer, and the indexes were called in order, up to
+-- the first bad one
 pub record IsSequentialReport (work : Workload) (report : JobReport) : Type 0 where
   pub ended : report.ended ≡ sequential work
   pub calls : report.calls ≡ called_by work

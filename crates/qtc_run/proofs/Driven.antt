@@ -1,11 +1,11 @@
 -- What an engine that one worker drove comes to is what its job may report.
-use Rattle.std.proofs.Common.{◌≡◌, ◌≢◌, ℕ, ◌+◌, ◌<◌, ◌≤◌, ◌⊎◌, inl, inr, Bool, true, false, eqb, List, [], ◌∷◌, ◌++◌, length, get_or, Option, Some, None, refl, ap, sym, subst, ◌∙◌, map, ⊎_elim, arith}
-use Rattle.std.specs.Prelude.{All, IsTrue, ◌&&◌, ◌==◌, filter, fold, is_none, slice_get, if◌then◌else◌}
+use Rattle.std.proofs.Common.{◌≡◌, ◌≢◌, ℕ, ◌<◌, ◌≤◌, inl, Bool, true, false, eqb, List, [], ◌∷◌, ◌++◌, length, get_or, Some, None, refl, ap, sym, subst, ◌∙◌, map, ⊎_elim, arith}
+use Rattle.std.specs.Prelude.{All, ◌&&◌, filter, is_none, if◌then◌else◌}
 use Rattle.std.proofs.lemmas.Bool.{and_parts, cases_lt, true≢false}
 use Rattle.std.proofs.lemmas.Bool.Decides.{nat_tests}
-use Rattle.std.proofs.lemmas.List.{map-append, same_lists, take-append-drop}
+use Rattle.std.proofs.lemmas.List.{same_lists}
 use Rattle.std.proofs.lemmas.List.Elements.{All-nil, All-cons, All-head, All-tail, All-map, All-filter}
-use Rattle.std.proofs.lemmas.Option.{slice_get-get_or, get_or_from_slice_get}
+use Rattle.std.proofs.lemmas.Option.{slice_get-get_or}
 use Rattle.qtc_base.specs.Ranges.{times_covered}
 use Rattle.qtc_events.specs.Flags.{new_flags}
 use Rattle.qtc_events.specs.declared.calls.Call.TheVariants.{Start, Finish}
@@ -22,13 +22,13 @@ use Rattle.qtc_ops.specs.declared.operations.MapOp.{MapOp}
 use Rattle.qtc_ops.specs.declared.operations.MapOp.TheVariants.{Same, Length, Digest, Field, Number}
 use Rattle.qtc_store.specs.Stored.{Stored, IsFirstResults}
 use Rattle.qtc_future.specs.Ends.{IsOutcome}
-use Rattle.qtc_future.specs.Future.{Future, Logged, entries_of, events_of, failure_of, flags_of, journal_of, reports_of, results_of}
+use Rattle.qtc_future.specs.Future.{Future, events_of, failure_of, flags_of, journal_of, results_of}
 use Rattle.qtc_future.specs.Legal.{IsLegal}
 use Rattle.qtc_future.specs.declared.replies.Failure.{Failure}
 use Rattle.qtc_future.specs.declared.replies.Outcome.{Outcome}
 use Rattle.qtc_future.specs.declared.replies.Outcome.TheVariants.{Values, Failed, Canceled}
 use Rattle.qtc_kernel.specs.Driving.{EndsWith as DriveEnds, IsDriven, IsOpenedAndClosed, called_by, is_filter, own_entry, plain_mode}
-use Rattle.qtc_kernel.specs.Laws.{AcceptedBatchesAreRight, AreCalledOnce, FailuresAreBadItems, FuturesAreLegal, IsFailing, NoIndexIsCalledTwice, RangesAreBlocks, WholeRunsAreSequential}
+use Rattle.qtc_kernel.specs.Laws.{AcceptedBatchesAreRight, AreCalledOnce, FailuresAreBadItems, FuturesAreLegal, NoIndexIsCalledTwice, RangesAreBlocks, WholeRunsAreSequential}
 use Rattle.qtc_kernel.specs.Machine.{Engine, Event, Mode, new_engine, run_of}
 use Rattle.qtc_kernel.specs.Runs.{AreInTime, HasSize, IsBlock, IsThrough, accepted_ranges, claimed_ranges, is_taken, reported_ranges, times_called}
 use Rattle.qtc_kernel.specs.Workload.{Suits, Workload, bad_indexes, item_at, kept_texts, size_of, workload}

@@ -1,10 +1,10 @@
 -- Where Canceled doesn't stand in the end, no entry of a journal canceled.
-use Rattle.std.proofs.Common.{◌≡◌, Bool, true, false, List, [], ◌∷◌, refl, sym, ap, ◌∙◌, ⊎_elim}
+use Rattle.std.proofs.Common.{◌≡◌, Bool, true, false, List, [], ◌∷◌, refl, sym, ◌∙◌, ⊎_elim}
 use Rattle.std.specs.Prelude.{All, fold}
 use Rattle.std.proofs.lemmas.Bool.{cases_Bool, true≢false}
 use Rattle.std.proofs.lemmas.List.Elements.{All-nil, All-cons}
 use Rattle.qtc_events.specs.Flags.{Standing}
-use Rattle.qtc_events.specs.Calls.{acts_as, after, after_acting, after_call}
+use Rattle.qtc_events.specs.Calls.{acts_as, after_acting, after_call}
 use Rattle.qtc_events.specs.Journal.{after_entry}
 use Rattle.qtc_events.specs.declared.calls.Call.{Call}
 use Rattle.qtc_events.specs.declared.calls.Call.TheVariants.{Start, Report, Account, Suspend, Resume, ReportSuspended, Cancel, Fail, Finish}

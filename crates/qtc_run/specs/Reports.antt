@@ -1,5 +1,5 @@
 -- What a report may be: of a job, and of a run. So far jobs have no fold and are not canceled. (Own.)
-use Rattle.std.specs.Prelude.{◌≡◌, ◌+◌, ◌<◌, ◌≤◌, ◌⊎◌, ℕ, Bool, true, false, ◌&&◌, is_none, List, [], ◌∷◌, ◌++◌, All, map, Option, None, Some, if◌then◌else◌}
+use Rattle.std.specs.Prelude.{◌≡◌, ◌<◌, ◌≤◌, ◌⊎◌, ℕ, Bool, true, false, ◌&&◌, is_none, List, [], ◌∷◌, ◌++◌, All, map, None, Some, if◌then◌else◌}
 use Rattle.std.specs.List.{list_any}
 use Rattle.qtc_base.specs.Ranges.{Tiles, times_covered}
 use Rattle.qtc_events.specs.declared.calls.Call.{Call}

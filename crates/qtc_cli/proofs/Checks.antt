@@ -1,24 +1,23 @@
 -- A call of the form check.
-use Rattle.std.proofs.Common.{◌≡◌, ◌≢◌, ℕ, ◌<◌, ◌≤◌, List, Option, Some, None, length, refl, sym, ap, ◌∙◌, inl, inr, arith}
-use Rattle.std.specs.Prelude.{◌⊎◌, ◌↔◌, IfSome}
+use Rattle.std.proofs.Common.{◌≡◌, ◌≢◌, ℕ, ◌≤◌, List, Some, length, refl, sym, ap, ◌∙◌, inl, inr, arith}
 use Rattle.qtc_outside.specs.Source.{Source, IsCalm}
 use Rattle.qtc_outside.specs.Intake.{Intake}
 use Rattle.qtc_outside.specs.Loading.{Loads, FailsToLoad, IsTooLong}
 use Rattle.qtc_job.specs.declared.jobs.BadJob.{BadJob}
 use Rattle.qtc_job.specs.declared.jobs.JobFile.{JobFile}
-use Rattle.qtc_job.specs.Grammar.{Reads, IsLeastBad}
+use Rattle.qtc_job.specs.Grammar.{Reads}
 use Rattle.qtc_job.specs.Limits.{most_text as most_job_file}
 use Rattle.qtc_job.specs.Lines.{lines_of}
-use Rattle.qtc_cli.specs.Answered.{IsDone, KeepsOutside, IsBadJob, HasNoFaults}
-use Rattle.qtc_cli.specs.Check.{IsCheck, IsChecked, IsCheckCut, CanCheck, ChecksFile, FormsCheck, WritesCheck, RefusesCheck, CheckEnds}
-use Rattle.qtc_cli.specs.Endings.{IsRefused, Writes, WritesAll, WritesFront}
-use Rattle.qtc_cli.specs.Forms.{Form, form, run, check}
+use Rattle.qtc_cli.specs.Answered.{IsBadJob, HasNoFaults}
+use Rattle.qtc_cli.specs.Check.{IsCheck, ChecksFile, FormsCheck, CheckEnds}
+use Rattle.qtc_cli.specs.Endings.{IsRefused, WritesAll, WritesFront}
+use Rattle.qtc_cli.specs.Forms.{form, check}
 use Rattle.qtc_cli.specs.Loads.{LoadsFile, LoadsBad, FileStops}
 use Rattle.qtc_cli.specs.Refusals.{status_of, line_of, Hears, SaysFor}
 use Rattle.qtc_cli.specs.Seen.{Seen, seen}
 use Rattle.qtc_cli.specs.declared.refusals.Refusal.{Refusal}
 use Rattle.qtc_cli.specs.declared.refusals.Refusal.TheVariants.{Usage, Bad, ReadFault, WriteFault, Memory, TooLarge, NotYet}
-use Rattle.qtc_cli.proofs.Ends.{two-at-least, not-done, keeps-refused, keeps-done, keeps-cut}
+use Rattle.qtc_cli.proofs.Ends.{two-at-least, keeps-refused, keeps-done, keeps-cut}
 use Rattle.qtc_cli.proofs.Texts.{calm-same}
 
 -- ---- a file that can be read is not refused

@@ -1,15 +1,8 @@
 -- What the endings of a call make of it.
-use Rattle.std.proofs.Common.{◌≡◌, ◌≢◌, ℕ, ◌≤◌, List, [], ◌∷◌, ◌++◌, Option, Some, None, refl, sym, ap, ◌∙◌, inl, inr, arith}
-use Rattle.std.specs.Prelude.{◌⊎◌, ◌↔◌}
-use Rattle.qtc_outside.specs.Source.{Source, IsCalm}
-use Rattle.qtc_outside.specs.Intake.{Intake}
-use Rattle.qtc_outside.specs.Loading.{FailsToLoad, IsTooLong}
-use Rattle.qtc_job.specs.declared.jobs.BadJob.{BadJob}
-use Rattle.qtc_job.specs.Limits.{most_text as most_job_file}
-use Rattle.qtc_cli.specs.Answered.{IsDone, IsSaid, KeepsOutside, IsBadJob, HasNoFaults}
-use Rattle.qtc_cli.specs.Endings.{IsRefused, WritesAll, WritesFront}
-use Rattle.qtc_cli.specs.Loads.{LoadsBad, FileStops}
-use Rattle.qtc_cli.specs.Refusals.{status_of, line_of, Hears, SaysFor}
+use Rattle.std.proofs.Common.{◌≡◌, ◌≢◌, ℕ, ◌≤◌, inl, inr, arith}
+use Rattle.qtc_outside.specs.Source.{IsCalm}
+use Rattle.qtc_cli.specs.Answered.{IsDone, KeepsOutside}
+use Rattle.qtc_cli.specs.Refusals.{status_of, line_of, Hears}
 use Rattle.qtc_cli.specs.Seen.{Seen}
 use Rattle.qtc_cli.specs.declared.refusals.Refusal.{Refusal}
 use Rattle.qtc_cli.specs.declared.refusals.Refusal.TheVariants.{Usage, Bad, ReadFault, WriteFault, Memory, TooLarge, NotYet}

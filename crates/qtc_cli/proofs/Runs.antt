@@ -1,7 +1,7 @@
 -- A call of the form run.
-use Rattle.std.proofs.Common.{◌≡◌, ◌≢◌, ℕ, ◌+◌, ◌-◌, ◌<◌, ◌≤◌, List, [], ◌∷◌, ◌++◌, min, take, drop, Bool, true, false, cond, Option, Some, None, length, refl, sym, ap, ◌∙◌, inl, inr, arith, ⊎_elim}
-use Rattle.std.specs.Prelude.{◌⊎◌, ◌↔◌, All, IfSome, IsTrue, map}
-use Rattle.std.proofs.lemmas.Bool.{cases_Bool, true≢false}
+use Rattle.std.proofs.Common.{◌≡◌, ◌≢◌, ℕ, ◌+◌, ◌-◌, ◌<◌, ◌≤◌, List, [], ◌∷◌, ◌++◌, min, take, drop, Bool, true, false, cond, Option, Some, None, length, refl, sym, ap, ◌∙◌, inl, inr, arith}
+use Rattle.std.specs.Prelude.{◌↔◌, All, IfSome, IsTrue, map}
+use Rattle.std.proofs.lemmas.Bool.{true≢false}
 use Rattle.std.proofs.lemmas.Grind.{common_steps, flat_map-append}
 use Rattle.std.proofs.lemmas.List.{take-append-drop, length-append}
 use Rattle.std.proofs.lemmas.List.Elements.{All-head, All-tail}
@@ -9,13 +9,9 @@ use Rattle.std.proofs.lemmas.List.Sums.{sum_by-append}
 use Rattle.qtc_base.specs.Items.{PassesLimit}
 use Rattle.qtc_outside.specs.Source.{Source, IsCalm}
 use Rattle.qtc_outside.specs.Intake.{Intake}
-use Rattle.qtc_outside.specs.Loading.{Loads, FailsToLoad, IsTooLong}
-use Rattle.qtc_outside.specs.declared.loading.LoadFault.TheVariants.{Read, TooLong}
-use Rattle.qtc_job.specs.declared.jobs.BadJob.{BadJob}
+use Rattle.qtc_outside.specs.declared.loading.LoadFault.TheVariants.{TooLong}
 use Rattle.qtc_job.specs.declared.jobs.JobFile.{JobFile}
-use Rattle.qtc_job.specs.Grammar.{Reads}
 use Rattle.qtc_job.specs.Limits.{most_text as most_job_file}
-use Rattle.qtc_job.specs.Lines.{lines_of}
 use Rattle.qtc_job.specs.declared.jobs.Job.{Job}
 use Rattle.qtc_run.specs.Loaded.{most_text}
 use Rattle.qtc_run.specs.Reports.{has_failed}
@@ -25,18 +21,18 @@ use Rattle.qtc_run.specs.Sums.{items_up_to, RefusesRun as JobsStop}
 use Rattle.qtc_run.specs.declared.reports.Report.{Report}
 use Rattle.qtc_run.specs.declared.reports.RunFault.{RunFault}
 use Rattle.qtc_run.specs.declared.reports.RunFault.TheVariants.{TooLarge as ItemsTooLarge, Memory as RunMemory}
-use Rattle.qtc_cli.specs.Answered.{IsDone, KeepsOutside, IsBadJob, HasNoFaults}
-use Rattle.qtc_cli.specs.Check.{IsCheck, CheckEnds}
-use Rattle.qtc_cli.specs.Endings.{IsRefused, Writes, WritesAll, WritesFront}
-use Rattle.qtc_cli.specs.Forms.{Form, form, run, check}
-use Rattle.qtc_cli.specs.Loads.{most_texts, LoadsFile, LoadsBad, LoadsTexts, StopsAt, texts_named, name_of, bytes_of, room_after}
+use Rattle.qtc_cli.specs.Answered.{IsDone, IsBadJob, HasNoFaults}
+use Rattle.qtc_cli.specs.Check.{CheckEnds}
+use Rattle.qtc_cli.specs.Endings.{IsRefused, WritesAll, WritesFront}
+use Rattle.qtc_cli.specs.Forms.{form, run, check}
+use Rattle.qtc_cli.specs.Loads.{most_texts, LoadsFile, LoadsTexts, texts_named, name_of, bytes_of}
 use Rattle.qtc_cli.specs.Refusals.{run_refusal, status_of, line_of, Hears, SaysFor}
-use Rattle.qtc_cli.specs.Run.{RunsFile, Ran, IsRun, IsRunCut, IsTextRefused, IsReadFault, HasManyItems, IsTooLarge, IsNotYet, CanRun, RunsAsSaid, IsCall, RunStops, Forms, done_status, WritesRun, RefusesRun, RunEnds}
+use Rattle.qtc_cli.specs.Run.{RunsFile, Ran, IsTextRefused, IsReadFault, HasManyItems, IsTooLarge, IsNotYet, CanRun, RunsAsSaid, IsCall, RunStops, Forms, done_status, RunEnds}
 use Rattle.qtc_cli.specs.Seen.{Seen, seen}
 use Rattle.qtc_cli.specs.declared.refusals.Refusal.{Refusal}
 use Rattle.qtc_cli.specs.declared.refusals.Refusal.TheVariants.{Usage, Bad, ReadFault, WriteFault, Memory, TooLarge, NotYet}
 use Rattle.qtc_cli.proofs.Checks.{not-bad, file-same, not-too-long, check-call-of, usage-said}
-use Rattle.qtc_cli.proofs.Ends.{two-at-least, eight-at-most, not-done, keeps-refused, keeps-done, keeps-cut}
+use Rattle.qtc_cli.proofs.Ends.{eight-at-most, not-done, keeps-refused, keeps-done, keeps-cut}
 use Rattle.qtc_cli.proofs.Texts.{calm-same, calm-then}
 
 -- ---- texts that are held are those that are loaded

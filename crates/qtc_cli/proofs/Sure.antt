@@ -1,5 +1,5 @@
 -- A call that meets no fault.
-use Rattle.std.proofs.Common.{◌≡◌, ◌≢◌, ℕ, ◌≤◌, List, Option, Some, None, arith}
+use Rattle.std.proofs.Common.{◌≡◌, ◌≢◌, Option, Some, None, arith}
 use Rattle.qtc_outside.specs.Counts.{Rose}
 use Rattle.qtc_cli.specs.Answered.{HasNoFaults}
 use Rattle.qtc_cli.specs.Forms.{Form, form, run, check}

@@ -1,5 +1,5 @@
 -- Texts that were loaded name by name are the texts that were first named.
-use Rattle.std.proofs.Common.{◌≡◌, ℕ, suc, ◌+◌, ◌<◌, ◌≤◌, List, [], ◌∷◌, ◌++◌, true, false, Some, None, length, take, drop, get_or, refl, ap, sym, ◌∙◌, subst, append_assoc, ⊎_elim, inl, inr, arith}
+use Rattle.std.proofs.Common.{◌≡◌, ℕ, suc, ◌+◌, ◌<◌, ◌≤◌, List, [], ◌∷◌, ◌++◌, true, false, None, length, take, drop, get_or, refl, ap, sym, ◌∙◌, subst, append_assoc, inl, inr, arith}
 use Rattle.std.specs.Prelude.{All, IfSome, IsSome, map, is_some}
 use Rattle.std.proofs.lemmas.List.Elements.{All-nil, All-cons, All-push}
 use Rattle.std.proofs.Math.Seq.{drop-cons}
@@ -9,13 +9,13 @@ use Rattle.std.proofs.lemmas.Grind.{common_steps, flat_map-append}
 use Rattle.qtc_outside.specs.Counts.{risen}
 use Rattle.qtc_outside.specs.Shelf.{text_under}
 use Rattle.qtc_outside.specs.Source.{Source, IsCalm}
-use Rattle.qtc_outside.specs.Loading.{Loads, NotLoaded}
+use Rattle.qtc_outside.specs.Loading.{NotLoaded}
 use Rattle.qtc_outside.specs.declared.loading.LoadFault.{LoadFault}
 use Rattle.qtc_outside.specs.declared.loading.LoadFault.TheVariants.{Read, TooLong, Memory}
 use Rattle.qtc_run.specs.Loaded.{most_text}
 use Rattle.qtc_job.specs.declared.jobs.Job.{Job}
 use Rattle.qtc_run.specs.Sources.{Texts, names_of, names_of_all}
-use Rattle.qtc_cli.specs.Loads.{first_named, name_of, bytes_of, most_texts, room_after, LoadsTexts, StopsAt, TextsStop}
+use Rattle.qtc_cli.specs.Loads.{first_named, name_of, bytes_of, room_after, LoadsTexts, StopsAt, TextsStop}
 use Rattle.qtc_cli.specs.LoadSteps.{IsThere, IsLoaded, LoadsNext, LoadsMore, NextStops, NamesStop}
 use Rattle.qtc_cli.proofs.Names.{is_among, among-first, first-again, first-new, first-split, under-among, under-kept, under-end}
 

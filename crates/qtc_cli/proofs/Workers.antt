@@ -1,9 +1,7 @@
 -- The number of workers that a word spells.
-use Rattle.std.proofs.Common.{◌≡◌, ℕ, ◌<◌, ◌≤◌, List, Bool, true, false, cond, Option, Some, None, refl, ap, ◌∙◌, sym, ⊎_elim, arith}
-use Rattle.std.specs.Prelude.{◌↔◌, IsSome}
-use Rattle.std.proofs.lemmas.Bool.{cases_Bool, false≢true, and_from, and_parts, le-leb, leb-true}
+use Rattle.std.proofs.Common.{◌≡◌, ℕ, ◌<◌, ◌≤◌, List, true, false, cond, Some, None, refl, ap, ⊎_elim, arith}
+use Rattle.std.proofs.lemmas.Bool.{cases_Bool, and_from, and_parts, le-leb, leb-true}
 use Rattle.qtc_base.specs.Decimal.{IsNumber, number_of}
-use Rattle.qtc_job.specs.Literals.{is_numeral, is_within}
 use Rattle.qtc_job.proofs.LiteralLemmas.{numeral-decides}
 use Rattle.qtc_cli.specs.Forms.{is_workers}
 

@@ -1,10 +1,8 @@
 -- What every call of the program keeps, and when each refusal comes. (Own.)
-use Rattle.std.specs.Prelude.{◌≡◌, ◌≢◌, ◌⊎◌, ◌↔◌, ℕ, List, [], Option, Some, None}
+use Rattle.std.specs.Prelude.{◌≡◌, ◌≢◌, ◌⊎◌, ℕ, List}
 use Rattle.qtc_outside.specs.Counts.{Rose}
-use Rattle.qtc_outside.specs.Source.{Source, IsCalm}
-use Rattle.qtc_outside.specs.Loading.{FailsToLoad, IsTooLong}
+use Rattle.qtc_outside.specs.Source.{IsCalm}
 use Rattle.qtc_job.specs.declared.jobs.BadJob.{BadJob}
-use Rattle.qtc_job.specs.Limits.{most_text as most_job_file}
 use Rattle.qtc_cli.specs.Loads.{LoadsBad}
 use Rattle.qtc_cli.specs.Refusals.{status_of, line_of, Hears}
 use Rattle.qtc_cli.specs.Seen.{Seen}

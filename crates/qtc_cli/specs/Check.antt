@@ -1,5 +1,5 @@
 -- What a call that checks a job file comes to. (Own.)
-use Rattle.std.specs.Prelude.{◌≡◌, ◌≢◌, ◌⊎◌, ◌↔◌, ◌≤◌, ℕ, List, [], length, Option, Some, None}
+use Rattle.std.specs.Prelude.{◌≡◌, ◌≢◌, ◌⊎◌, ◌↔◌, ◌≤◌, ℕ, List, length, Some}
 use Rattle.qtc_outside.specs.Source.{Source}
 use Rattle.qtc_outside.specs.Intake.{Intake, Takes, IsCut}
 use Rattle.qtc_outside.specs.Loading.{FailsToLoad, IsTooLong}

@@ -1,6 +1,5 @@
 -- The forms of the words, as the program keeps them. (Own.)
 use Rattle.std.specs.Prelude.{◌≡◌, ℕ, List, Option, Some, None}
-use Rattle.std.specs.Borrow.{Bor}
 use Rattle.qtc_cli.specs.declared.command_forms.Task.{Task}
 use Rattle.qtc_cli.specs.declared.command_forms.Task.TheVariants.{Run, Check}
 use Rattle.qtc_cli.specs.declared.command_forms.Command.{Command}

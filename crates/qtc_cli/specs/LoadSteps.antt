@@ -6,7 +6,7 @@ use Rattle.qtc_outside.specs.Loading.{Loads, NotLoaded}
 use Rattle.qtc_outside.specs.declared.loading.LoadFault.{LoadFault}
 use Rattle.qtc_outside.specs.declared.loading.LoadFault.TheVariants.{Read, TooLong, Memory}
 use Rattle.qtc_run.specs.Sources.{Texts}
-use Rattle.qtc_cli.specs.Loads.{room_after, bytes_of}
+use Rattle.qtc_cli.specs.Loads.{room_after}
 
 -- a name that has a text asks for nothing; another one is loaded
 pub record IsThere (old : Texts) (source : Source) (name : List ℕ) (new : Texts) (after : Source) : Type 0 where

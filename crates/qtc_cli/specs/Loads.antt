@@ -1,5 +1,5 @@
 -- What the program loads: a job file, and the texts that it names. (Own.)
-use Rattle.std.specs.Prelude.{◌≡◌, ℕ, ◌-◌, ◌≤◌, Bool, not, min, List, [], ◌∷◌, ◌++◌, length, map, filter, sum_by, All, IfSome}
+use Rattle.std.specs.Prelude.{◌≡◌, ℕ, ◌-◌, ◌≤◌, not, min, List, [], ◌∷◌, ◌++◌, length, map, filter, sum_by, All, IfSome}
 use Rattle.std.specs.Str.{bytes_eq}
 use Rattle.qtc_outside.specs.Counts.{risen}
 use Rattle.qtc_outside.specs.Source.{Source, IsCalm}

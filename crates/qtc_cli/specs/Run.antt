@@ -1,5 +1,5 @@
 -- What a call that runs a job file comes to. (Own.)
-use Rattle.std.specs.Prelude.{◌≡◌, ◌≢◌, ◌⊎◌, ◌↔◌, ◌≤◌, ℕ, Bool, List, [], length, map, All, Option, Some, None, IsTrue, if◌then◌else◌}
+use Rattle.std.specs.Prelude.{◌≡◌, ◌≢◌, ◌⊎◌, ◌↔◌, ◌≤◌, ℕ, List, length, map, All, Option, Some, None, IsTrue, if◌then◌else◌}
 use Rattle.qtc_base.specs.Items.{PassesLimit}
 use Rattle.qtc_outside.specs.Source.{Source, IsCalm}
 use Rattle.qtc_outside.specs.Intake.{Intake, Takes, IsCut}

@@ -1,6 +1,6 @@
 use Rattle.std.proofs.Common.{ap, ◌∙◌, Some}
 use Rattle.qtc_cli.specs.Commands.{form_said}
-use Rattle.qtc_cli.proofs.Checks.{check-call-of, check-usage}
+use Rattle.qtc_cli.proofs.Checks.{check-call-of}
 use Rattle.qtc_cli.proofs.check.check_words.Goals as goal
 
 pub returns-in-Check : goal.returns-in-Check

@@ -1,6 +1,6 @@
 use Rattle.std.proofs.Common.{refl, arith}
 use Rattle.std.proofs.lemmas.Bool.{false≢true}
-use Rattle.qtc_cli.proofs.Workers.{no-number, no-worker, many-workers, some-workers}
+use Rattle.qtc_cli.proofs.Workers.{no-number, some-workers}
 use Rattle.qtc_cli.proofs.command_forms.workers_of.Goals as goal
 
 pub returns-in_default : goal.returns-in_default

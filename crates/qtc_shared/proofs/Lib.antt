@@ -1,0 +1,5 @@
+pub mod Prefixes
+pub mod Places
+pub mod Steps
+pub mod Seats
+pub mod Follow

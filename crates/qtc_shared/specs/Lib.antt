@@ -1,0 +1,6 @@
+pub mod Limits
+pub mod Journals
+pub mod Parts
+pub mod Passes
+pub mod Rule
+pub mod Inside

@@ -1,0 +1,102 @@
+-- What contracts see of a shared future and of a pass, and what a hold and a look do to a pass. (After QFuture and
+-- QPromise; passes are own.)
+use Rattle.std.specs.Prelude.{◌≡◌, ◌<◌, ℕ, Bool, true, false, List, [], ◌∷◌, ◌++◌, Some, Result, IsTrue, IsOk, IfOk, OnErr, length, slice_get, count_by}
+use Rattle.atomic_table.specs.Seated.{TableId}
+use Rattle.qtc_base.specs.declared.memory.NoMemory.{NoMemory}
+use Rattle.qtc_events.specs.Flags.{Standing}
+use Rattle.qtc_events.specs.declared.events.Event.{Event}
+use Rattle.qtc_events.specs.declared.events.Event.TheVariants.{Ready}
+use Rattle.qtc_future.specs.Answering.{IsStep, IsTry, is_idle}
+use Rattle.qtc_future.specs.Future.{Future, Logged}
+use Rattle.qtc_future.specs.Steps.{Told, Accepted, step}
+use Rattle.qtc_future.specs.declared.requests.Request.{Request}
+use Rattle.qtc_shared.specs.Journals.{IsJournal, Saw, calls_by, flags_at}
+use Rattle.qtc_shared.specs.Parts.{Terms, future_at}
+
+-- which future it is, as no other has its table, and what it was made with
+pub record FutureId : Type 0 where
+  pub table : TableId
+  pub terms : Terms
+
+-- a pass of the future: its number, the journal that it knows, and the flags that it saw since, in order
+pub record PassState (V : Type 0) : Type 0 where
+  pub of : FutureId
+  pub number : ℕ
+  pub known : List (Logged V)
+  pub seen : List Standing
+
+-- a pass that knows this journal, and saw nothing since
+abbrev pub pass_at : {V : Type 0} → FutureId → ℕ → List (Logged V) → PassState V
+pass_at of number journal = record { of = of; number = number; known = journal; seen = [] }
+
+-- a journal of the future, as the pass meets it
+pub record Meets {V : Type 0} (pass : PassState V) (journal : List (Logged V)) : Type 0 where
+  pub lawful : IsJournal pass.of.terms journal
+  -- it begins with all that the pass knew, and what the pass saw since stood on the way to it
+  pub saw : Saw pass.known journal pass.seen
+  -- the pass knew each call of its own number in it
+  pub own : calls_by pass.number journal ≡ calls_by pass.number pass.known
+
+-- one hold of the future by a pass: at a journal that the pass meets something is done, and the pass then knows the
+-- journal after it
+pub record IsHold {V : Type 0} (old new : PassState V) (Does : Future V → Future V → Type 0) : Type 0 where
+  pub journal : List (Logged V)
+  pub met : Meets old journal
+  pub done : Does (future_at old.of.terms journal) (future_at old.of.terms new.known)
+  pub pass : new ≡ record old { known = new.known; seen = [] }
+
+abbrev pub is_accepted : Told → Bool
+is_accepted (Accepted added reached) = true
+is_accepted _ = false
+
+abbrev pub is_ready : Event → Bool
+is_ready (Ready begin end) = true
+is_ready _ = false
+
+-- how many of the events are Ready
+abbrev pub ready_among : List Event → ℕ
+ready_among events = count_by is_ready events
+
+-- what is done in a hold: the step of a call that the pass makes,
+abbrev pub Makes : {V : Type 0} → PassState V → Request V → Told → Future V → Future V → Type 0
+Makes pass request told before after = IsStep (step before pass.number request) after told
+
+-- the same of a call that may want memory,
+abbrev pub Tries : {V T : Type 0} → PassState V → Request V → (T → Told) → Result T NoMemory
+    → Future V → Future V → Type 0
+Tries pass request told result before after = IsTry before (step before pass.number request) told after result
+
+-- or nothing,
+abbrev pub Stays : {V : Type 0} → Future V → Future V → Type 0
+Stays before after = after ≡ before
+
+-- but that something is found there
+abbrev pub Finds : {V : Type 0} → (Future V → Type 0) → Future V → Future V → Type 0
+Finds IsThere before after = (after ≡ before) × IsThere before
+
+-- a result is added, where its batch is accepted,
+pub record Adds {V : Type 0} (pass : PassState V) (request : Request V) (result : Result Bool NoMemory)
+    (before after : Future V) : Type 0 where
+  pub ok : IfOk result
+      (λ added. (after ≡ (step before pass.number request).future)
+      × (added ≡ is_accepted (step before pass.number request).told))
+  pub err : OnErr result (after ≡ before)
+  pub sure : IsTrue (is_idle (step before pass.number request).told) → IsOk result
+
+-- one look at the flags, without a hold: the pass has seen them, and they stand at a journal that it meets
+pub record IsLook {V : Type 0} (old new : PassState V) (flags : Standing) : Type 0 where
+  pub journal : List (Logged V)
+  pub met : Meets new journal
+  pub now : flags ≡ flags_at journal
+  pub pass : new ≡ record old { seen = old.seen ++ flags ∷ [] }
+
+-- the same, of which something is told
+abbrev pub Sees : {V : Type 0} → (old new : PassState V) → (Standing → Type 0) → Type 0
+Sees old new IsSo = (flags : Standing) × IsLook old new flags × IsSo flags
+
+-- a core that is shared: on which terms, with how many passes, each of which knows the core's journal
+pub record IsShared {V : Type 0} (core : Future V) (makers count : ℕ) (future : FutureId) (passes : List (PassState V))
+    : Type 0 where
+  pub terms : future.terms ≡ record { filter = core.filter; thresholds = core.thresholds; makers = makers }
+  pub count_is : length passes ≡ count
+  pub each : (number : ℕ) → number < count → slice_get passes number ≡ Some (pass_at future number core.calls)

@@ -3,3 +3,5 @@ pub mod Places
 pub mod Steps
 pub mod Seats
 pub mod Follow
+pub mod Chains
+pub mod Staying

@@ -4,3 +4,5 @@ pub mod Parts
 pub mod Passes
 pub mod Rule
 pub mod Inside
+pub mod Waiting
+pub mod Laws

@@ -1,15 +1,18 @@
 -- What contracts see of a shared future and of a pass, and what a hold and a look do to a pass. (After QFuture and
 -- QPromise; passes are own.)
-use Rattle.std.specs.Prelude.{◌≡◌, ◌<◌, ℕ, Bool, true, false, List, [], ◌∷◌, ◌++◌, Some, Result, IsTrue, IsOk, IfOk, OnErr, length, slice_get, count_by}
+use Rattle.std.specs.Prelude.{◌≡◌, ◌<◌, ◌↔◌, ℕ, Bool, true, false, List, [], ◌∷◌, ◌++◌, Option, Some, Result, Ok, IsTrue, IsOk, IfOk, IfNone, OnErr, MatchBool, length, slice_get, count_by}
 use Rattle.atomic_table.specs.Seated.{TableId}
 use Rattle.qtc_base.specs.declared.memory.NoMemory.{NoMemory}
-use Rattle.qtc_events.specs.Flags.{Standing}
+use Rattle.qtc_events.specs.Flags.{Standing, flags_in}
 use Rattle.qtc_events.specs.declared.events.Event.{Event}
 use Rattle.qtc_events.specs.declared.events.Event.TheVariants.{Ready}
+use Rattle.qtc_events.specs.declared.flags.Flags.{Flags}
 use Rattle.qtc_future.specs.Answering.{IsStep, IsTry, is_idle}
-use Rattle.qtc_future.specs.Future.{Future, Logged}
-use Rattle.qtc_future.specs.Steps.{Told, Accepted, step}
+use Rattle.qtc_future.specs.Future.{Future, Logged, results_of}
+use Rattle.qtc_future.specs.Steps.{Told, Accepted, Effect, has_ended, step}
 use Rattle.qtc_future.specs.declared.requests.Request.{Request}
+use Rattle.qtc_future.specs.declared.requests.Request.TheVariants.{ReportSuspended, Cancel, Finish}
+use Rattle.qtc_store.specs.Stored.{value_at}
 use Rattle.qtc_shared.specs.Journals.{IsJournal, Saw, calls_by, flags_at}
 use Rattle.qtc_shared.specs.Parts.{Terms, future_at}
 
@@ -93,6 +96,50 @@ pub record IsLook {V : Type 0} (old new : PassState V) (flags : Standing) : Type
 -- the same, of which something is told
 abbrev pub Sees : {V : Type 0} → (old new : PassState V) → (Standing → Type 0) → Type 0
 Sees old new IsSo = (flags : Standing) × IsLook old new flags × IsSo flags
+
+-- looks, one after the other, the last at these flags
+pub record IsWatch {V : Type 0} (old new : PassState V) (flags : Standing) : Type 0 where
+  pub journal : List (Logged V)
+  pub met : Meets new journal
+  pub now : flags ≡ flags_at journal
+  pub before : List Standing
+  pub pass : new ≡ record old { seen = old.seen ++ before ++ flags ∷ [] }
+
+-- no suspension stands
+pub record IsResumed (flags : Standing) : Type 0 where
+  pub suspending : flags.suspending ≡ false
+  pub suspended : flags.suspended ≡ false
+
+-- what a wait for a result finds: the result, or none where Canceled or Finished stands
+abbrev pub IsAwaited : {V : Type 0} → ℕ → Result (Option V) NoMemory → Future V → Type 0
+IsAwaited index result future =
+    IfOk result (λ value. (value ≡ value_at (results_of future) index) × IfNone value (IsTrue (has_ended future)))
+
+-- that the work stands still is reported where Suspending stands: a look, and then a hold where that flag stood
+pub record IsReport {V : Type 0} (old new : PassState V) (answer : Result Bool NoMemory) : Type 0 where
+  pub flags : Standing
+  pub looked : PassState V
+  pub look : IsLook old looked flags
+  pub report : MatchBool flags.suspending
+      (IsHold looked new (Tries looked ReportSuspended Effect answer))
+      ((new ≡ looked) × (answer ≡ Ok false))
+
+-- a pause, where one is asked for: that report, and then looks until no suspension stands
+pub record IsPause {V : Type 0} (old new : PassState V) (result : Result Flags NoMemory) : Type 0 where
+  pub answer : Result Bool NoMemory
+  pub reported : PassState V
+  pub report : IsReport old reported answer
+  pub ok : IfOk result (λ now. IsWatch reported new (flags_in now.bits) × IsResumed (flags_in now.bits))
+  pub err : OnErr result (new ≡ reported)
+  pub same : IsOk result ↔ IsOk answer
+
+-- a future is ended: it is canceled, and then finished, where that has an effect
+pub record IsEnding {V : Type 0} (old new : PassState V) : Type 0 where
+  pub canceled : Bool
+  pub between : PassState V
+  pub cancel : IsHold old between (Makes old Cancel (Effect canceled))
+  pub finished : Bool
+  pub finish : IsHold between new (Makes between Finish (Effect finished))
 
 -- a core that is shared: on which terms, with how many passes, each of which knows the core's journal
 pub record IsShared {V : Type 0} (core : Future V) (makers count : ℕ) (future : FutureId) (passes : List (PassState V))

@@ -12,6 +12,7 @@ use crate::flag_word::{FlagWord, Lent};
 use crate::rule::View;
 use atomic_table::Seat;
 use qtc_base::{NoMemory, Value};
+use qtc_events::Flags;
 use qtc_future::FutureCore;
 use qtc_lock::{Bell, Hold, KeyLock, Sleepers};
 use std::alloc::Global;
@@ -112,6 +113,13 @@ impl<V: Value> Desk<V> {
             self.word.wake_all();
         }
         self.bell.ring();
+    }
+
+    /// Sleeps while the word shows these flags. It may return for no reason.
+    pub fn sleep<R: Wait>(&self, rt: &R, flags: Flags) {
+        self.sleepers.enter();
+        self.word.park(rt, flags);
+        self.sleepers.leave();
     }
 
     /// Takes the book, and shows the pass the journal.

@@ -4,13 +4,18 @@
 mod book;
 mod desk;
 mod flag_word;
+mod laws;
 mod looking;
 mod pass;
+mod promise;
 mod reading;
 mod reporting;
 mod rule;
 mod shared_future;
 mod steering;
+mod waiting;
 
+pub use laws::{known_is_kept, seen_ends_drop_all, seen_flags_stay};
 pub use pass::Pass;
+pub use promise::Promise;
 pub use shared_future::SharedFuture;

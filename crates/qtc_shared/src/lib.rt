@@ -13,6 +13,8 @@ mod reporting;
 mod rule;
 mod shared_future;
 mod steering;
+#[cfg(test)]
+mod tests;
 mod waiting;
 
 pub use laws::{known_is_kept, seen_ends_drop_all, seen_flags_stay};

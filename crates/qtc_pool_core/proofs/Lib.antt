@@ -1,0 +1,11 @@
+pub mod Places
+pub mod Taken
+pub mod Ranks
+pub mod Tops
+pub mod Heads
+pub mod Emptied
+pub mod Adopted
+pub mod Replay
+pub mod Cleared
+pub mod Firsts
+pub mod Lawful

@@ -1,0 +1,2 @@
+-- What a pool that threads share is known by.
+pub mod Shared

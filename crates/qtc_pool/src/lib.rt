@@ -1,0 +1,11 @@
+//! A pool of threads that threads share: tasks by priority, reserved threads, and workers that sleep while there is
+//! nothing to do.
+#![tactic(auto)]
+
+mod guarded;
+mod pool;
+mod serving;
+mod work;
+
+pub use pool::Pool;
+pub use work::Work;

@@ -5,6 +5,8 @@
 mod guarded;
 mod pool;
 mod serving;
+#[cfg(test)]
+mod tests;
 mod work;
 
 pub use pool::Pool;

@@ -9,14 +9,9 @@ use std::thread::{Threads, for_each_mut};
 /// What a worker does next.
 #[derive(Drop)]
 pub(crate) enum Next<K> {
-    Task {
-        id: u32,
-        work: K,
-    },
+    Task { id: u32, work: K },
     /// Tasks run that may start others: sleep until the bell has rung more often than that.
-    Sleep {
-        rings: u32,
-    },
+    Sleep { rings: u32 },
     /// Nothing waits and nothing runs.
     Leave,
 }

@@ -6,13 +6,13 @@ use Rattle.std.proofs.lemmas.List.Elements.{All-head}
 use Rattle.qtc_base.specs.Ranges.{Tiles}
 use Rattle.atomic_table.specs.Seated.{TableId}
 use Rattle.qtc_claim.specs.declared.rule.View.{View}
-use Rattle.qtc_claim.specs.Claims.{IsWithinLimits, most_indexes, most_workers, most_size, Addition, addition_at, Worker, new_worker, added, added_past, claims_of, clipped, MeetNowhere, after_load, after_addition}
+use Rattle.qtc_claim.specs.Claims.{IsWithinLimits, most_indexes, most_workers, most_size, Addition, addition_at, Worker, new_worker, added, added_past, claims_of, clipped, gave, MeetNowhere, after_load, after_addition}
 use Rattle.qtc_claim.specs.Rule.{worker_view, covers, covering, blank, claimed, kept, KnowsAll, Knows, looked, grown, made, Looks, Grows}
 use Rattle.qtc_claim.specs.Counter.{CounterId, SeatState, PieceState, TallyState, Sees, ClaimsPiece, IsGathered, HasAll, IsEnd, KnowsClaims, added_by}
 use Rattle.atomic_table.specs.declared.shared.Seat.{Seat}
 use Rattle.qtc_claim.specs.declared.counter.Counter.TheInside.{Inside}
 use Rattle.qtc_claim.specs.Inside.{counter_id, IsCounter, IsWorker, worker_of, seat_of, in_hand, of_seat, tally_of, HasRead}
-use Rattle.qtc_claim.proofs.Sums.{pushed_each, of_claims, apart_from, tiles_from, covers_upto, blank_below, sum_by_none}
+use Rattle.qtc_claim.proofs.Sums.{pushed_each, of_claims, apart_from, tiles_from, covers_upto, blank_below, gave_and_blank, sum_by_none}
 
 pub in_word : (count n workers : ℕ) → n ≤ most_indexes → workers ≤ most_workers → count ≤ n + most_size * workers → count < 2 ^ 64
 in_word count n workers a b bound = omega arith
@@ -109,9 +109,16 @@ module _ (counter : CounterId) (count : ℕ) (view : View) (limits : IsWithinLim
     all_added : added_by view.workers ≡ count
     all_added = let sizes = knows_all.sizes in added_is ∙ sizes
 
+    parts_once : (weight : Addition → ℕ) → sum_by weight view.held + sum_by weight knows_all.out.0 ≡ sum_by weight (gave counter.n (claims_of view.workers))
+    parts_once weight =
+        let out : kept counter.n weight view + sum_by weight knows_all.out.0 ≡ claimed weight view = subst (λ n. kept n weight view + sum_by weight knows_all.out.0 ≡ claimed weight view) n_is (knows_all.out.1 weight) in
+        omega
+        (arith, out, gave_and_blank counter.n weight (claims_of view.workers), of_claims weight view.workers, of_claims (blank counter.n weight) view.workers)
+
     knows_claims : KnowsClaims tally
     knows_claims = record {
       seen = subst (λ most. All (λ (worker : Worker). worker.seen ≤ most) view.workers) (sym all_added) knows.right.seen;
+      pieces = (knows_all.out.0, record { once = λ weight. parts_once weight });
       tiles = λ far. tiles_from counter.n count (claims_of view.workers) (let is = all_added in omega arith) (λ number below. of_claims (covering number) view.workers ∙ knows_all.tiles number);
     }
 

@@ -4,7 +4,7 @@ use Rattle.std.proofs.Math.Nat.{mod-eq_of_lt}
 use Rattle.std.proofs.lemmas.Bool.Decides.{nat_tests}
 use Rattle.std.proofs.lemmas.List.Sums.{sum_by-append, sum_by_push, sum_by-remove, sum_by-le-sum_by, count_by-le-length}
 use Rattle.std.proofs.lemmas.List.Elements.{All-set, All-append, All-cons, All-nil, All-weaker, All-head}
-use Rattle.std.specs.List.{remove}
+use Rattle.std.specs.List.{flat_map, remove}
 use mathlib.Core.Option.{some}
 use lib.ListN.{get_elem?}
 use Rattle.atomic_table.specs.Table.{Me, Act, Valid, keeps, homes_after, carried_after, Allows, Splits, Joins}
@@ -14,7 +14,7 @@ use Rattle.qtc_claim.specs.declared.rule.View.{View}
 use Rattle.qtc_claim.specs.declared.rule.Limits.{Limits}
 use Rattle.qtc_claim.specs.Claims.{most_indexes, most_workers, most_size, Addition, addition_at, Worker, new_worker, after_load, after_addition}
 use Rattle.qtc_claim.specs.Rule.{worker_view, spent_view, covers, covering, blank, claimed, kept, saw, numbered, seats, IsRight, AddsUp, Holds, IsKept, KnowsAll, Knows, looked, grown, left_to_make, made, empty_handed, cut, gathered, Looks, Grows, Reads}
-use Rattle.qtc_claim.proofs.Sums.{covers_none, covers_one, covers_on, covers_first, sum_by_nothing}
+use Rattle.qtc_claim.proofs.Sums.{covers_none, covers_one, covers_on, covers_first, sum_by_nothing, of_held, sum_by_both}
 
 -- what a step changes: a measure of the views that it touches, before and after
 abbrev Changes : (T T' before after : (View → ℕ) → ℕ) → Type 0
@@ -129,7 +129,22 @@ module _ (key : Limits) (count : ℕ) (views : List View) (holds : Holds key cou
         let none : (weight : Addition → ℕ) → sum_by (claimed weight) (remove views id) ≡ 0 =
         λ weight. sum_by_nothing (claimed weight) seats (remove views id) (no_seat weight) no_seats
         in
+        let held_by_others : List Addition = flat_map (λ (view : View). view.held) (remove views id) in
+        let out : (weight : Addition → ℕ) → kept key.n weight v + sum_by weight held_by_others ≡ claimed weight v =
+        λ weight.
+        omega (
+          arith,
+          parts (kept key.n weight),
+          parts (claimed weight),
+          none weight,
+          none (blank key.n weight),
+          holds.sums.once weight,
+          of_held weight (remove views id),
+          sum_by_both (λ (view : View). sum_by weight view.held) (claimed (blank key.n weight)) (remove views id),
+        )
+        in
         record {
+          out = (held_by_others, subst (λ n. (weight : Addition → ℕ) → kept n weight v + sum_by weight held_by_others ≡ claimed weight v) (sym n_is) out);
           tiles = λ number. omega (arith, parts (claimed (covering number)), none (covering number), holds.sums.tiles number);
           sizes = omega (arith, parts (claimed size), none size, holds.sums.sizes);
           nothing_out = λ whole number.

@@ -1,10 +1,12 @@
 -- Sums over views, and the numbers that ranges cover.
-use Rattle.std.proofs.Common.{◌≡◌, ℕ, zero, suc, ◌+◌, ◌-◌, ◌<◌, ◌≤◌, ◌==◌, cond, nat_lt, List, [], ◌∷◌, ◌++◌, length, map, sym, refl, ap, ◌∙◌, subst, arith, sum_by, slice_get, Some}
+use Rattle.std.proofs.Common.{◌≡◌, ℕ, zero, suc, ◌+◌, ◌-◌, ◌<◌, ◌≤◌, ◌==◌, cond, nat_lt, Bool, true, false, List, [], ◌∷◌, ◌++◌, length, map, sym, refl, ap, ◌∙◌, subst, arith, sum_by, slice_get, Some}
 use Rattle.std.proofs.lemmas.Bool.Decides.{nat_tests}
 use Rattle.std.proofs.lemmas.List.Sums.{sum_by-cons, sum_by-append}
 use native.Mathlib.Decide.{dec_lt}
+use Rattle.std.specs.List.{flat_map}
+use Rattle.qtc_claim.specs.declared.rule.View.{View}
 use Rattle.qtc_base.specs.Ranges.{in_range, times_covered, Tiles}
-use Rattle.qtc_claim.specs.Claims.{Addition, Worker, raw, clipped, claims_of, MeetNowhere}
+use Rattle.qtc_claim.specs.Claims.{Addition, Worker, raw, clipped, gave, claims_of, MeetNowhere}
 use Rattle.qtc_claim.specs.Rule.{covers, covering, blank}
 
 pub covers_none : (number begin : ℕ) → covers number begin 0 ≡ 0
@@ -37,6 +39,13 @@ module _ {X : Type 0} where
       let rest = sum_by_none f xs none in
       let one = none x in
       sum_by-cons f x xs ∙ omega arith
+
+  -- a sum of two terms each is two sums
+  pub sum_by_both : (f g : X → ℕ) (xs : List X) → sum_by (λ x. f x + g x) xs ≡ sum_by f xs + sum_by g xs
+  sum_by_both f g [] = refl
+  sum_by_both f g (x ∷ xs) =
+      let rest = sum_by_both f g xs in
+      sum_by-cons (λ y. f y + g y) x xs ∙ omega (arith, rest, sum_by-cons f x xs, sum_by-cons g x xs)
 
 -- how often ranges cover a number
 module _ (number : ℕ) where
@@ -78,6 +87,28 @@ of_claims weight (worker ∷ workers) =
     sum_by-append weight worker.claims (claims_of workers)
     ∙ omega arith
     ∙ sym (sum_by-cons (λ (it : Worker). sum_by weight it.claims) worker workers)
+
+-- what the views hold, view by view
+pub of_held : (weight : Addition → ℕ) (views : List View) → sum_by weight (flat_map (λ (view : View). view.held) views) ≡ sum_by (λ (view : View). sum_by weight view.held) views
+of_held weight [] = refl
+of_held weight (view ∷ views) =
+    let rest = of_held weight views in
+    sum_by-append weight view.held (flat_map (λ (it : View). it.held) views)
+    ∙ omega arith
+    ∙ sym (sum_by-cons (λ (it : View). sum_by weight it.held) view views)
+
+-- those that gave a piece, and those that gave none
+sum_chosen : (b : Bool) (weight : Addition → ℕ) (addition : Addition) (others : List Addition) → sum_by weight (cond b (addition ∷ others) others) ≡ cond b (weight addition) 0 + sum_by weight others
+sum_chosen true weight addition others = sum_by-cons weight addition others
+sum_chosen false weight addition others = omega arith
+
+pub gave_and_blank : (n : ℕ) (weight : Addition → ℕ) (additions : List Addition) → sum_by weight (gave n additions) + sum_by (blank n weight) additions ≡ sum_by weight additions
+gave_and_blank n weight [] = refl
+gave_and_blank n weight (addition ∷ additions) =
+    let rest = gave_and_blank n weight additions in
+    let one : cond (nat_lt addition.begin n) (weight addition) 0 + blank n weight addition ≡ weight addition = grind (arith, nat_tests) in
+    let here = sum_chosen (nat_lt addition.begin n) weight addition (gave n additions) in
+    omega (arith, rest, one, here, sum_by-cons weight addition additions, sum_by-cons (blank n weight) addition additions)
 
 pub apart_from : (n : ℕ) (additions : List Addition) → ((number : ℕ) → sum_by (covering number) additions ≤ 1) → MeetNowhere n additions
 apart_from n additions apart = record {

@@ -1,6 +1,6 @@
 -- Claimed ranges (own). Workers add to one counter; an addition claims the numbers from the counter as it was up to
 -- what it became.
-use Rattle.std.specs.Prelude.{ℕ, ◌+◌, ◌≤◌, ◌==◌, cond, nat_le, List, ◌++◌, [], ◌∷◌, map, sum_by, count_by}
+use Rattle.std.specs.Prelude.{◌≡◌, ℕ, ◌+◌, ◌≤◌, ◌==◌, cond, nat_le, nat_lt, List, ◌++◌, [], ◌∷◌, map, filter, sum_by, count_by}
 use Rattle.std.specs.List.{flat_map}
 use Rattle.qtc_base.specs.Ranges.{times_covered, clip}
 
@@ -43,6 +43,14 @@ added additions = sum_by (λ addition. addition.size) additions
 -- what those of them added that began at n or past it, and so gave no piece
 abbrev pub added_past : ℕ → List Addition → ℕ
 added_past n additions = sum_by (λ addition. cond (nat_le n addition.begin) addition.size 0) additions
+
+-- those of them that began below n, and so gave a piece
+abbrev pub gave : ℕ → List Addition → List Addition
+gave n additions = filter (λ addition. nat_lt addition.begin n) additions
+
+-- some additions and others are all of these, each once: however additions are weighed, they weigh as much
+pub record AreParts (some others all : List Addition) : Type 0 where
+  pub once : (weight : Addition → ℕ) → sum_by weight some + sum_by weight others ≡ sum_by weight all
 
 -- each number is claimed by one of them at most; so is each index, of what they claim below n
 pub record MeetNowhere (n : ℕ) (additions : List Addition) : Type 0 where

@@ -2,7 +2,7 @@
 use Rattle.std.specs.Prelude.{◌≡◌, ℕ, ◌+◌, ◌*◌, ◌<◌, ◌≤◌, ◌⊎◌, cond, nat_lt, List, [], Some, map, length, slice_get, All}
 use Rattle.atomic_table.specs.Seated.{TableId}
 use Rattle.qtc_base.specs.Ranges.{Tiles}
-use Rattle.qtc_claim.specs.Claims.{most_size, Addition, Worker, new_worker, after_load, after_addition, added, added_past, times_numbered, claims_of, clipped, MeetNowhere}
+use Rattle.qtc_claim.specs.Claims.{most_size, Addition, Worker, new_worker, after_load, after_addition, added, added_past, times_numbered, claims_of, clipped, gave, AreParts, MeetNowhere}
 
 -- which counter it is, as no other has its table; how many indexes it counts, and for how many workers
 pub record CounterId : Type 0 where
@@ -84,9 +84,10 @@ pub record IsEnd (tally : TallyState) : Type 0 where
   pub nothing_out : added tally.pieces + added_past tally.of.n (claims_of tally.workers) ≡ added_by tally.workers
   pub past : tally.of.n ≤ added_by tally.workers
 
--- what follows where all seats are gathered: no worker saw more than was added, and where that is n or more, what they
--- claimed below n tiles 0 to n
+-- what follows where all seats are gathered: no worker saw more than was added; where that is n or more, what they
+-- claimed below n tiles 0 to n; and the gathered pieces, with others that are out, are the claims that gave one
 pub record KnowsClaims (tally : TallyState) : Type 0 where
   pub seen : All (λ worker. worker.seen ≤ added_by tally.workers) tally.workers
   pub tiles : tally.of.n ≤ added_by tally.workers
       → Tiles (map (clipped tally.of.n) (claims_of tally.workers)) tally.of.n
+  pub pieces : (out : List Addition) × AreParts tally.pieces out (gave tally.of.n (claims_of tally.workers))

@@ -6,13 +6,13 @@ use Rattle.std.proofs.lemmas.List.Elements.{All-head}
 use Rattle.qtc_base.specs.Ranges.{Tiles}
 use Rattle.atomic_table.specs.Seated.{TableId}
 use Rattle.qtc_claim.specs.declared.rule.View.{View}
-use Rattle.qtc_claim.specs.Claims.{IsWithinLimits, most_indexes, most_workers, most_size, Addition, addition_at, Worker, new_worker, added, added_past, claims_of, clipped, gave, MeetNowhere, after_load, after_addition}
+use Rattle.qtc_claim.specs.Claims.{IsWithinLimits, most_indexes, most_workers, most_size, Addition, addition_at, Worker, new_worker, added, added_past, claims_of, clipped, gave, times_numbered, MeetNowhere, after_load, after_addition}
 use Rattle.qtc_claim.specs.Rule.{worker_view, covers, covering, blank, claimed, kept, KnowsAll, Knows, looked, grown, made, Looks, Grows}
 use Rattle.qtc_claim.specs.Counter.{CounterId, SeatState, PieceState, TallyState, Sees, ClaimsPiece, IsGathered, HasAll, IsEnd, KnowsClaims, added_by}
 use Rattle.atomic_table.specs.declared.shared.Seat.{Seat}
 use Rattle.qtc_claim.specs.declared.counter.Counter.TheInside.{Inside}
 use Rattle.qtc_claim.specs.Inside.{counter_id, IsCounter, IsWorker, worker_of, seat_of, in_hand, of_seat, tally_of, HasRead}
-use Rattle.qtc_claim.proofs.Sums.{pushed_each, of_claims, apart_from, tiles_from, covers_upto, blank_below, gave_and_blank, sum_by_none}
+use Rattle.qtc_claim.proofs.Sums.{pushed_each, of_claims, apart_from, tiles_from, covers_below, covers_none, covers_upto, blank_below, gave_and_blank, sum_by_none}
 
 pub in_word : (count n workers : ℕ) → n ≤ most_indexes → workers ≤ most_workers → count ≤ n + most_size * workers → count < 2 ^ 64
 in_word count n workers a b bound = omega arith
@@ -115,9 +115,19 @@ module _ (counter : CounterId) (count : ℕ) (view : View) (limits : IsWithinLim
         omega
         (arith, out, gave_and_blank counter.n weight (claims_of view.workers), of_claims weight view.workers, of_claims (blank counter.n weight) view.workers)
 
+    each_number : (number : ℕ) → number < counter.workers → times_numbered number view.workers ≡ 1
+    each_number number below =
+        let numbers = knows_all.numbers number in
+        let places = knows.places in
+        let unmade : view.unmade ≡ 0 = omega (arith, places, all, most_is) in
+        let nothing : covers number view.next view.unmade ≡ 0 = ap (λ size. covers number view.next size) unmade ∙ covers_none number view.next in
+        let one : covers number 0 view.most ≡ 1 = ap (covers number 0) most_is ∙ covers_below number counter.workers below in
+        omega (arith, numbers, nothing, one)
+
     knows_claims : KnowsClaims tally
     knows_claims = record {
       seen = subst (λ most. All (λ (worker : Worker). worker.seen ≤ most) view.workers) (sym all_added) knows.right.seen;
+      numbers = each_number;
       pieces = (knows_all.out.0, record { once = λ weight. parts_once weight });
       tiles = λ far. tiles_from counter.n count (claims_of view.workers) (let is = all_added in omega arith) (λ number below. of_claims (covering number) view.workers ∙ knows_all.tiles number);
     }

@@ -106,6 +106,15 @@ nothing_kept n number view none =
     in
     omega arith
 
+-- nor a number
+no_number : (number : ℕ) (view : View) → seats view ≡ 0 → numbered number view ≡ 0
+no_number number view none =
+    let unmade : view.unmade ≡ 0 = omega (arith, none) in
+    let empty : length view.workers ≡ 0 = omega (arith, none) in
+    let nothing : covers number view.next view.unmade ≡ 0 = ap (λ size. covers number view.next size) unmade ∙ covers_none number view.next in
+    let few = count_by-le-length (λ (worker : Worker). worker.number == number) view.workers in
+    omega (arith, nothing, empty, few)
+
 module _ (key : Limits) (count : ℕ) (views : List View) (holds : Holds key count views) where
   pub in_bound : count ≤ key.n + most_size * key.workers
   in_bound =
@@ -122,8 +131,8 @@ module _ (key : Limits) (count : ℕ) (views : List View) (holds : Holds key cou
         let it = placed views id v at in
         sym (sum_by-remove measure views id v it.0) ∙ ap (λ w. sum_by measure (remove views id) + measure w) it.1
 
-    knows_all : length v.workers ≡ key.workers → v.n ≡ key.n → KnowsAll v count
-    knows_all all n_is =
+    knows_all : length v.workers ≡ key.workers → v.n ≡ key.n → v.most ≡ key.workers → KnowsAll v count
+    knows_all all n_is most_is =
         let size : Addition → ℕ = λ addition. addition.size in
         let no_seats : sum_by seats (remove views id) ≡ 0 = omega (arith, parts seats, holds.sums.places, all) in
         let none : (weight : Addition → ℕ) → sum_by (claimed weight) (remove views id) ≡ 0 =
@@ -145,6 +154,9 @@ module _ (key : Limits) (count : ℕ) (views : List View) (holds : Holds key cou
         in
         record {
           out = (held_by_others, subst (λ n. (weight : Addition → ℕ) → kept n weight v + sum_by weight held_by_others ≡ claimed weight v) (sym n_is) out);
+          numbers = λ number.
+              let no_others : sum_by (numbered number) (remove views id) ≡ 0 = sum_by_nothing (numbered number) seats (remove views id) (no_number number) no_seats in
+              subst (λ most. numbered number v ≡ covers number 0 most) (sym most_is) (omega (arith, parts (numbered number), no_others, holds.sums.numbers number));
           tiles = λ number. omega (arith, parts (claimed (covering number)), none (covering number), holds.sums.tiles number);
           sizes = omega (arith, parts (claimed size), none size, holds.sums.sizes);
           nothing_out = λ whole number.
@@ -173,7 +185,7 @@ module _ (key : Limits) (count : ℕ) (views : List View) (holds : Holds key cou
           numbers = λ number.
               subst (λ most. numbered number v ≤ covers number 0 most) (sym most_is) (omega (arith, parts (numbered number), holds.sums.numbers number));
           places = omega (arith, parts seats, holds.sums.places, most_is);
-          all = λ all. knows_all (all ∙ most_is) n_is;
+          all = λ all. knows_all (all ∙ most_is) n_is most_is;
         }
 
 module _ (key : Limits) (slots id : ℕ) where

@@ -127,7 +127,7 @@ covers_upto number end = grind (arith, nat_tests)
 pub blank_below : (n number : ℕ) (addition : Addition) → number < n → blank n (covering number) addition ≡ 0
 blank_below n number addition below = grind (arith, nat_tests)
 
-covers_below : (number end : ℕ) → number < end → covers number 0 end ≡ 1
+pub covers_below : (number end : ℕ) → number < end → covers number 0 end ≡ 1
 covers_below number end below = grind (arith, nat_tests)
 
 -- where each number below the counter is covered, and that is n or more

@@ -85,9 +85,11 @@ pub record IsEnd (tally : TallyState) : Type 0 where
   pub past : tally.of.n ≤ added_by tally.workers
 
 -- what follows where all seats are gathered: no worker saw more than was added; where that is n or more, what they
--- claimed below n tiles 0 to n; and the gathered pieces, with others that are out, are the claims that gave one
+-- claimed below n tiles 0 to n; the gathered pieces, with others that are out, are the claims that gave one; and each
+-- number below the number of workers is that of one of them
 pub record KnowsClaims (tally : TallyState) : Type 0 where
   pub seen : All (λ worker. worker.seen ≤ added_by tally.workers) tally.workers
   pub tiles : tally.of.n ≤ added_by tally.workers
       → Tiles (map (clipped tally.of.n) (claims_of tally.workers)) tally.of.n
   pub pieces : (out : List Addition) × AreParts tally.pieces out (gave tally.of.n (claims_of tally.workers))
+  pub numbers : (number : ℕ) → number < tally.of.workers → times_numbered number tally.workers ≡ 1

@@ -97,6 +97,7 @@ pub record KnowsAll (view : View) (count : ℕ) : Type 0 where
   pub sizes : claimed (λ addition. addition.size) view ≡ count
   pub nothing_out : kept view.n (λ addition. addition.size) view ≡ count
       → (number : ℕ) → kept view.n (covering number) view ≡ covers number 0 count
+  pub numbers : (number : ℕ) → numbered number view ≡ covers number 0 view.most
   -- the others hold what of its claims it doesn't have
   pub out : (out : List Addition) × ((weight : Addition → ℕ) →
       kept view.n weight view + sum_by weight out ≡ claimed weight view)

@@ -142,8 +142,8 @@ pub record IsEnding {V : Type 0} (old new : PassState V) : Type 0 where
   pub finish : IsHold between new (Makes between Finish (Effect finished))
 
 -- a core that is shared: on which terms, with how many passes, each of which knows the core's journal
-pub record IsShared {V : Type 0} (core : Future V) (makers count : ℕ) (future : FutureId) (passes : List (PassState V))
-    : Type 0 where
+pub record IsShared {V : Type 0} (core : Future V) (makers count : ℕ) (future : FutureId)
+    (passes : List (PassState V)) : Type 0 where
   pub terms : future.terms ≡ record { filter = core.filter; thresholds = core.thresholds; makers = makers }
   pub count_is : length passes ≡ count
   pub each : (number : ℕ) → number < count → slice_get passes number ≡ Some (pass_at future number core.calls)

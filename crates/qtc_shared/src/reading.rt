@@ -59,7 +59,8 @@ impl<V: Value> SharedFuture<V> {
     /// How many Ready events stand from `cursor` on.
     pub fn ready_past<R: Wait>(&self, rt: &R, pass: &mut Pass<V>, cursor: u64) -> u64
         requires { pass.old.of ≡ self.now }
-        ensures { IsHold pass.old pass.new (Finds (λ future. result ≡ ready_among (drop cursor (events_of future)))) }
+        ensures { IsHold pass.old pass.new
+            (Finds (λ future. result ≡ ready_among (drop cursor (events_of future)))) }
     {
         let (book, hold) = self.desk.show(rt, &mut pass.seat);
         let ready = ready_from(book.core.events(), cursor);

@@ -1,4 +1,4 @@
-ghost use Rattle.std.specs.Prelude.{◌≡◌, ◌<◌, false, [], IfOk, length};
+ghost use Rattle.std.specs.Prelude.{◌≡◌, ◌<◌, false, IfOk};
 
 mod callers;
 mod squares;
@@ -144,45 +144,77 @@ fn a_promise_that_ends_cancels_what_is_not_finished(rt: HostRuntime) -> Result<(
     Ok(())
 }
 
-// What a watcher is told of two results: the number of results and of Ready events, an event, and the replay.
+// A core that is shared, and its one pass, a maker's.
+fn shared(alloc: Global) -> Result<(SharedFuture<u32>, Pass<u32>), NoMemory>
+    ensures of { IfOk result (λ made. made.1.of ≡ made.0) }
+    ensures maker { IfOk result (λ made. made.1.number < made.0.terms.makers) }
+    ensures mode { IfOk result (λ made. made.0.terms.filter ≡ false) }
+{
+    let core = FutureCore::new(alloc, false, 0, 0)?;
+    let (future, mut passes) = SharedFuture::from_core(alloc, core, 1, 1)?;
+    let pass = passes.pop().unwrap();
+    Ok((future, pass))
+}
+
+// What a watcher is told.
+struct Told {
+    count: u32,
+    ready: u64,
+    event: Option<Event>,
+    replay: List<Event>,
+    events: u64,
+}
+
+// What a watcher is told that meets the caller.
 fn watched<R: Wait>(
     rt: &R,
-    alloc: Global,
-    core: FutureCore<u32>,
-    values: List<u32>,
-) -> Result<(u32, u64, Option<Event>, List<Event>, u64), NoMemory>
-    requires new { core.calls ≡ [] }
-    requires plain { core.filter ≡ false }
-    requires two { length values ≡ 2 }
+    future: &SharedFuture<u32>,
+    pass: &mut Pass<u32>,
+    watcher: &mut Pass<u32>,
+) -> Result<Told, NoMemory>
+    requires pass { pass.old.of ≡ future.now }
+    requires watcher { watcher.old.of ≡ future.now }
 {
-    let (future, mut passes) = SharedFuture::from_core(alloc, core, 1, 2)?;
-    let mut watcher = passes.pop().unwrap();
-    let mut maker = passes.pop().unwrap();
-    let _started = future.start(rt, &mut maker);
-    let _reply = future.report(rt, &mut maker, 0, values, 2)?;
-    future.meet(rt, &mut maker, &mut watcher);
-    let count = future.count(rt, &mut watcher);
-    let ready = future.ready_past(rt, &mut watcher, 1);
-    let event = future.event_at(rt, &mut watcher, 1);
-    let (told, events) = future.replay(rt, &mut watcher)?;
-    Ok((count, ready, event, told, events))
+    future.meet(rt, pass, watcher);
+    let count = future.count(rt, watcher);
+    let ready = future.ready_past(rt, watcher, 1);
+    let event = future.event_at(rt, watcher, 1);
+    let (replay, events) = future.replay(rt, watcher)?;
+    Ok(Told {
+        count,
+        ready,
+        event,
+        replay,
+        events,
+    })
 }
 
 #[test]
 fn watchers_are_told(rt: HostRuntime) -> Result<(), Fail> {
     let alloc = rt.alloc();
-    let mut values = List::new(alloc);
-    let (Ok(()), Ok(())) = (values.push(7), values.push(8)) else {
-        panic!(rt; "memory")
+    let (future, mut pass) = shared(alloc)?;
+    let Some(mut watcher) = future.new_pass(&rt, &mut pass) else {
+        panic!(rt; "a pass")
     };
-    let core = FutureCore::new(alloc, false, 0, 0)?;
-    let (count, ready, event, told, events) = watched(&rt, alloc, core, values)?;
+    let Some(mut other) = future.new_pass(&rt, &mut pass) else {
+        panic!(rt; "a pass")
+    };
+    let mut caller = Caller::new(&future, pass);
+    assert!(rt; caller.start(&rt));
+    assert_eq!(rt; caller.report(&rt, alloc, 0, 7), Ok(accepted(0, 0, 1)));
+    let Told {
+        count,
+        ready,
+        event,
+        replay,
+        events,
+    } = watched(&rt, &future, &mut other, &mut watcher)?;
     assert_eq!(rt;
         (count, ready, event, events),
-        (2, 1, Some(Event::Ready(0, 2)), 2)
+        (1, 1, Some(Event::Ready(0, 1)), 2)
     );
-    let want = [Event::Started, Event::Ready(0, 2)];
-    assert_eq!(rt; told.as_slice(), want.as_slice());
+    let want = [Event::Started, Event::Ready(0, 1)];
+    assert_eq!(rt; replay.as_slice(), want.as_slice());
     Ok(())
 }
 
@@ -191,7 +223,7 @@ fn used_up<R: Wait>(rt: &R, future: &SharedFuture<u32>, pass: &mut Pass<u32>) ->
     requires { pass.old.of ≡ future.now }
 {
     let mut made = 0;
-    for _ in 0..100_000 {
+    for _ in 0..100_000u32 {
         match future.new_pass(rt, pass) {
             Some(_pass) => made += 1,
             None => return made,

@@ -3,6 +3,8 @@
 
 use claims::print_claims;
 use digests::print_digests;
+use future_waits::{Waiting, print_future_wait};
+use futures::print_futures;
 use locks::print_locks;
 use operations::print_operations;
 use std::process::ExitCode;
@@ -12,6 +14,8 @@ use waits::{print_bell_wait, print_lock_wait};
 
 mod claims;
 mod digests;
+mod future_waits;
+mod futures;
 mod locks;
 mod operations;
 mod stores;
@@ -28,7 +32,8 @@ usage: qtc_bench ops    the operations of jobs over 1000000 lines, ns an item
        qtc_bench store  a store of results, ns for an add and a get
        qtc_bench fill ascending|descending|shuffled    1000000 batches in a store
        qtc_bench claim  claims of 16 indexes beside a bare word, ns for a claim
-       qtc_bench wait lock|bell    a thread that waits for a second, ms
+       qtc_bench wait lock|bell|resume|finish|result    a thread that waits for a second, ms
+       qtc_bench future a shared future beside std's lock round its core, ns for a call
 ";
 
 fn main(rt: HostRuntime) -> io::Result<ExitCode> {
@@ -51,6 +56,10 @@ fn main(rt: HostRuntime) -> io::Result<ExitCode> {
         ("claim", None) => print_claims(&rt, alloc)?,
         ("wait", Some("lock")) => print_lock_wait(&rt, alloc)?,
         ("wait", Some("bell")) => print_bell_wait(&rt, alloc)?,
+        ("wait", Some("resume")) => print_future_wait(&rt, alloc, Waiting::Resume)?,
+        ("wait", Some("finish")) => print_future_wait(&rt, alloc, Waiting::Finish)?,
+        ("wait", Some("result")) => print_future_wait(&rt, alloc, Waiting::Result)?,
+        ("future", None) => print_futures(&rt, alloc)?,
         _ => {
             eprint!(rt; "{USAGE}")?;
             return Ok(ExitCode::from(2));

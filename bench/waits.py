@@ -16,8 +16,6 @@ from lines import RUNS, TOP
 BENCH = str(TOP / "crates/qtc_bench/out/qtc_bench")
 WAITS = ["lock", "bell", "resume", "finish", "result", "pool"]
 
-    bench/waits.py [WHAT ..]     all waits where none is named: lock, bell, resume, finish, result, pool
-
 
 def wait_once(what):
     """What the program printed, and the milliseconds of processor time that it took."""

@@ -3,11 +3,8 @@
 
 use claims::print_claims;
 use digests::print_digests;
-use future_waits::{Waiting, print_future_wait};
-use futures::print_futures;
 use locks::print_locks;
 use operations::print_operations;
-use pools::{print_pool_wait, print_pools};
 use std::process::ExitCode;
 use std::{env, io};
 use stores::{Order, print_filled, print_stores};
@@ -15,11 +12,8 @@ use waits::{print_bell_wait, print_lock_wait};
 
 mod claims;
 mod digests;
-mod future_waits;
-mod futures;
 mod locks;
 mod operations;
-mod pools;
 mod stores;
 mod tables;
 mod texts;
@@ -34,9 +28,7 @@ usage: qtc_bench ops    the operations of jobs over 1000000 lines, ns an item
        qtc_bench store  a store of results, ns for an add and a get
        qtc_bench fill ascending|descending|shuffled    1000000 batches in a store
        qtc_bench claim  claims of 16 indexes beside a bare word, ns for a claim
-       qtc_bench future a shared future beside std's lock round its core, ns for a call
-       qtc_bench pool   tasks through a pool beside std's queue under its lock, ns a task
-       qtc_bench wait lock|bell|resume|finish|result|pool    a thread, or 32 workers, that wait for a second, ms
+       qtc_bench wait lock|bell    a thread that waits for a second, ms
 ";
 
 fn main(rt: HostRuntime) -> io::Result<ExitCode> {
@@ -58,13 +50,7 @@ fn main(rt: HostRuntime) -> io::Result<ExitCode> {
         ("fill", Some("shuffled")) => print_filled(&rt, alloc, Order::Shuffled)?,
         ("claim", None) => print_claims(&rt, alloc)?,
         ("wait", Some("lock")) => print_lock_wait(&rt, alloc)?,
-        ("pool", None) => print_pools(&rt, alloc)?,
         ("wait", Some("bell")) => print_bell_wait(&rt, alloc)?,
-        ("wait", Some("resume")) => print_future_wait(&rt, alloc, Waiting::Resume)?,
-        ("wait", Some("finish")) => print_future_wait(&rt, alloc, Waiting::Finish)?,
-        ("wait", Some("result")) => print_future_wait(&rt, alloc, Waiting::Result)?,
-        ("future", None) => print_futures(&rt, alloc)?,
-        ("wait", Some("pool")) => print_pool_wait(&rt, alloc)?,
         _ => {
             eprint!(rt; "{USAGE}")?;
             return Ok(ExitCode::from(2));

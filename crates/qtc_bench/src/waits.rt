@@ -62,8 +62,7 @@ fn time_lock<R: Wait + Clock>(
     begin.elapsed(rt)
 }
 
-/// Prints how long a thread waited.
-pub fn print_wait<R: Print>(rt: &R, name: &str, waited: Duration) -> io::Result<()> {
+fn print_wait<R: Print>(rt: &R, name: &str, waited: Duration) -> io::Result<()> {
     let millis = waited.as_millis();
     println!(rt; "{name:<12} {millis:>6} ms")
 }

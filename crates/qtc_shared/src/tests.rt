@@ -1,6 +1,13 @@
 ghost use Rattle.std.specs.Prelude.{◌≡◌, ◌<◌, false, IfOk};
 
+mod callers;
+mod ends;
+mod makers;
+mod promise_rows;
+mod rows;
 mod squares;
+mod threads;
+mod waits;
 
 use crate::{Pass, SharedFuture};
 use qtc_base::NoMemory;

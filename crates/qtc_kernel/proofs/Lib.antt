@@ -12,3 +12,12 @@ pub mod Turns
 pub mod Calm
 pub mod Underway
 pub mod BlockSteps
+pub mod Gathering
+pub mod Passing
+pub mod Boards
+pub mod AtDesks
+pub mod Turning
+pub mod AtWork
+pub mod Opening
+pub mod Ending
+pub mod Settling

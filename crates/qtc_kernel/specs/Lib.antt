@@ -5,3 +5,11 @@ pub mod Runs
 pub mod Laws
 pub mod Driving
 pub mod Inside
+pub mod Gathering
+pub mod Crews
+pub mod Desks
+pub mod Turns
+pub mod Working
+pub mod WorkedOut
+pub mod BroughtIn
+pub mod Endings

@@ -2,15 +2,32 @@
 //!
 //! The machine (`specs/Machine.antt`) says it event by event, without threads, over the future's own steps. Its laws
 //! hold for every list of events.
+//!
+//! Many workers share an `Engine` by reference, each with a `Desk` of its own. A worker enters, takes turns by `step` until
+//! an answer other than `Did`, and is then out. What each desk keeps, whatever the other workers do, is `IsDesk`.
 #![tactic(auto)]
 
 mod blocks;
+mod board;
+mod claim_laws;
+mod closing;
+mod desk;
+mod engine;
+mod finishing;
+mod handing;
 mod kinds;
 mod laws;
 mod one_worker;
+mod plan;
+mod stepping;
 #[cfg(test)]
 mod tests;
+mod turn;
 
+pub use claim_laws::{desks_are_worked_out, reports_meet_claims};
+pub use desk::Desk;
+pub use engine::Engine;
+pub use finishing::Finished;
 pub use kinds::Kind;
 pub use laws::{
     accepted_batches_are_right, failures_are_bad_items, futures_are_legal,
@@ -18,3 +35,5 @@ pub use laws::{
     whole_runs_are_sequential,
 };
 pub use one_worker::run_one;
+pub use plan::Plan;
+pub use turn::Turn;

@@ -13,7 +13,7 @@ use qtc_outside::Gate;
 use std::alloc::Global;
 
 /// The place after `turn` in a list of so many, over and over.
-fn next_turn(turn: usize, len: usize) -> usize
+pub(crate) fn next_turn(turn: usize, len: usize) -> usize
     requires { turn < len }
     ensures { result ≡ cond (nat_lt (turn + 1) len) (turn + 1) 0 }
 {

@@ -1,0 +1,371 @@
+-- What stays true of the board of an engine.
+use Rattle.std.proofs.Common.{◌≡◌, ℕ, ◌+◌, ◌-◌, ◌<◌, ◌≤◌, min, Bool, true, false, not, ◌&&◌, ◌||◌, ◌==◌, nat_lt, List, [], ◌∷◌, ◌++◌, Option, None, Some, All, cond, map, length, Result, Ok, Err, IfOk, OnErr, if◌then◌else◌, inl, inr, refl, ap, sym, ◌∙◌, subst, arith}
+use Rattle.std.specs.Prelude.{Contains}
+use Rattle.std.specs.List.{list_any}
+use Rattle.std.proofs.lemmas.Bool.{cases_lt, false≢true}
+use Rattle.std.proofs.lemmas.Bool.Decides.{nat_tests}
+use Rattle.std.proofs.lemmas.List.{map-append}
+use Rattle.std.proofs.lemmas.List.Sums.{sum_by_push}
+use Rattle.std.proofs.lemmas.List.Elements.{All-cons, All-head, All-nil, All-push, All-tail, All-weaker, Contains-append_left, Contains-push}
+use native.Mathlib.Decide.{dec_lt}
+use Rattle.qtc_base.specs.Ranges.{in_range, times_covered}
+use Rattle.qtc_claim.specs.Claims.{Addition, clipped}
+use Rattle.qtc_claim.specs.Counter.{CounterId, IsGathered, PieceState, TallyState}
+use Rattle.qtc_events.specs.declared.calls.Call.{Call}
+use Rattle.qtc_events.specs.declared.calls.Call.TheVariants.{Start, Report, Account, Suspend, Resume, ReportSuspended, Cancel, Fail, Finish}
+use Rattle.qtc_store.specs.Batches.{end_of, in_order, is_covered, least_covered, most_end}
+use Rattle.qtc_store.specs.declared.batch.Batch.{Batch}
+use Rattle.qtc_store.specs.Stored.{batch_with}
+use Rattle.qtc_store.proofs.Offers.{is_covered-in_order}
+use Rattle.qtc_future.specs.Answering.{IsStep}
+use Rattle.qtc_future.specs.Future.{Future, Logged, batch_of, batches_in, reports_of, results_of}
+use Rattle.qtc_future.specs.Steps.{PastEnd, Stepped, accepted, dropped, has_ended, judged, offered, stays, step, told_by, with_call, with_report}
+use Rattle.qtc_future.specs.declared.replies.Reply.{Reply}
+use Rattle.qtc_future.specs.declared.requests.Request.TheVariants.{ReportBatch}
+use Rattle.qtc_ops.specs.ItemValue.{ItemValue}
+use Rattle.qtc_shared.specs.Journals.{BeginsWith, calls_by, flags_at}
+use Rattle.qtc_shared.specs.Parts.{future_at}
+use Rattle.qtc_shared.specs.Passes.{IsHold, Meets, PassState, Stays}
+use Rattle.qtc_shared.proofs.Prefixes.{begins_further, saw_begins}
+use Rattle.qtc_kernel.specs.Crews.{Crew, IsBoard, IsCrew, IsOfPiece, is_report, is_strange, opening, ranges_by, reporter, shows_end, work_of}
+use Rattle.qtc_kernel.specs.Runs.{IsBlock, range_of}
+use Rattle.qtc_kernel.specs.Working.{IsHandedIn, IsPieceOf, is_drop, range_in}
+use Rattle.qtc_kernel.specs.Workload.{Workload, first_bad, size_of, texts_in}
+use Rattle.qtc_kernel.proofs.Asking.{reported}
+use Rattle.qtc_kernel.proofs.Counted.{IsPart}
+use Rattle.qtc_kernel.proofs.Finding.{found_within}
+use Rattle.qtc_kernel.proofs.Gathering.{among_cover}
+use Rattle.qtc_kernel.proofs.Kept.{texts-most, texts-whole}
+use Rattle.qtc_kernel.proofs.Passing.{Journal, begins_more, calls_by-append, contained_on, end_stays, own_call, ranges_by-append, strange_on}
+use Rattle.qtc_kernel.proofs.Sound.{batch_in, batch_range}
+use Rattle.qtc_kernel.proofs.Tiled.{none_covers}
+
+-- ---- reports of one number
+
+pub no_batch : (call : Call) (values : List (List ℕ)) → is_report call ≡ false → batch_of call values ≡ []
+no_batch Start values h = refl
+no_batch (Report begin kept total) values h = absurd (cc)
+no_batch (Account total) values h = refl
+no_batch Suspend values h = refl
+no_batch Resume values h = refl
+no_batch ReportSuspended values h = refl
+no_batch Cancel values h = refl
+no_batch (Fail index) values h = refl
+no_batch Finish values h = refl
+
+-- where no report is of another number, the reports are those of this one
+pub none_strange : (number : ℕ) (journal : Journal) → list_any (is_strange number) journal ≡ false → reports_of journal ≡ reports_of (calls_by number journal)
+none_strange number [] none = refl
+none_strange number (logged ∷ journal) none =
+    let first : is_strange number logged ≡ false = left_false (is_strange number logged) (list_any (is_strange number) journal) none in
+    let rest = none_strange number journal (right_false (is_strange number logged) (list_any (is_strange number) journal) none) in
+    elim (logged.entry.caller == number) as (λ b. (logged.entry.caller == number) ≡ b → batches_in logged ++ reports_of journal ≡ reports_of (if b then logged ∷ calls_by number journal else calls_by number journal)) [
+      | true ↦ λ e. ap (λ batches. batches_in logged ++ batches) rest
+      | false ↦ λ e. ap (λ batches. batches ++ reports_of journal) (no_batch logged.entry.call logged.values (from_not (is_report logged.entry.call) (ap (λ b. is_report logged.entry.call && not b) (sym e) ∙ first))) ∙ rest
+    ] refl
+  where
+    left_false : (a b : Bool) → (a || b) ≡ false → a ≡ false
+    left_false a b h = grind arith
+
+    right_false : (a b : Bool) → (a || b) ≡ false → b ≡ false
+    right_false a b h = grind arith
+
+    from_not : (a : Bool) → (a && not false) ≡ false → a ≡ false
+    from_not a h = grind arith
+
+-- ---- what a report comes to
+
+-- an end stands; or an index of the batch is covered; or the batch is logged
+pub data Comes (future : Future (List ℕ)) (caller : ℕ) (batch : Batch (List ℕ)) (stepped : Stepped (List ℕ)) : Type 0 where
+  is_over : has_ended future ≡ true → stepped.future ≡ future → is_drop stepped.told ≡ true → Comes future caller batch stepped
+  is_taken : (index : ℕ) → least_covered (results_of future).batches batch.begin batch.total ≡ Some index → stepped.future ≡ future → is_drop stepped.told ≡ false → Comes future caller batch stepped
+  is_logged : stepped.future ≡ with_call future (reported future caller batch) → is_drop stepped.told ≡ false → Comes future caller batch stepped
+
+chosen : (future : Future (List ℕ)) (caller : ℕ) (batch : Batch (List ℕ)) (b : Bool) (x y : Stepped (List ℕ)) → (b ≡ true → Comes future caller batch x) → (b ≡ false → Comes future caller batch y) → Comes future caller batch (if b then x else y)
+chosen future caller batch true x y h k = h refl
+chosen future caller batch false x y h k = k refl
+
+some_logged : (future : Future (List ℕ)) (caller : ℕ) (batch : Batch (List ℕ)) → 0 < batch.total → with_report future caller batch ≡ with_call future (reported future caller batch)
+some_logged future caller batch some = let is : (batch.total == 0) ≡ false = grind (arith, nat_tests) in rw is refl
+
+judged_comes : (future : Future (List ℕ)) (caller : ℕ) (batch : Batch (List ℕ)) → 0 < batch.total → end_of batch ≤ most_end → (least : Option ℕ) → least_covered (results_of future).batches batch.begin batch.total ≡ least → Comes future caller batch (judged future caller batch least)
+judged_comes future caller batch some within (Some index) e = is_taken index e refl refl
+judged_comes future caller batch some within None e =
+    chosen future caller batch (nat_lt most_end (end_of batch)) (stays future PastEnd) (accepted future caller batch)
+    (λ h. absurd (past most_end (end_of batch) within h))
+    (λ h. is_logged (some_logged future caller batch some) refl)
+  where
+    past : (most end : ℕ) → end ≤ most → nat_lt most end ≡ true → ⊥
+    past most end within h = grind (arith, nat_tests)
+
+pub comes : (future : Future (List ℕ)) (caller : ℕ) (batch : Batch (List ℕ)) → 0 < batch.total → end_of batch ≤ most_end → Comes future caller batch (offered future caller batch)
+comes future caller batch some within =
+    chosen future caller batch (has_ended future) (dropped future) (judged future caller batch (least_covered (results_of future).batches batch.begin batch.total))
+    (λ h. is_over h refl refl)
+    (λ h. judged_comes future caller batch some within (least_covered (results_of future).batches batch.begin batch.total) refl)
+
+-- ---- the board goes on
+
+module _ {F : Type 0} (value : F → List ℕ → ItemValue) (crew : Crew F) where
+  n : ℕ
+  n = crew.counter.n
+
+  -- the journal is met, and no call of the board's own comes to it
+  pub board_met : (tally : TallyState) (pass pass' : PassState (List ℕ)) (journal : Journal) → IsBoard value crew tally pass → Meets pass journal → pass'.known ≡ journal → pass' ≡ record pass { known = pass'.known; seen = [] } → IsBoard value crew tally pass'
+  board_met tally pass pass' journal board met known is =
+      let number : pass'.number ≡ pass.number = ap (λ (p : PassState (List ℕ)). p.number) is in
+      let own : calls_by pass'.number pass'.known ≡ calls_by pass.number pass.known = ap (λ k. calls_by k pass'.known) number ∙ ap (calls_by pass.number) known ∙ met.own in
+      record {
+        counter = board.counter;
+        future = ap (λ (p : PassState (List ℕ)). p.of) is ∙ board.future;
+        number = number ∙ board.number;
+        opened = begins_further opening pass.known pass'.known board.opened (subst (λ k. BeginsWith k pass.known) (sym known) (saw_begins pass.known journal pass.seen met.saw));
+        reports = subst (All (IsOfPiece (work_of value crew) crew.counter.n crew.sizes tally.pieces)) (sym own) board.reports;
+      }
+
+  pub board_stays : (tally : TallyState) (pass pass' : PassState (List ℕ)) → IsBoard value crew tally pass → IsHold pass pass' Stays → IsBoard value crew tally pass'
+  board_stays tally pass pass' board hold = board_met tally pass pass' hold.journal board hold.met (ap (λ (f : Future (List ℕ)). f.calls) hold.done) hold.pass
+
+  -- more pieces are gathered
+  of_pieces_more : (pieces more : List Addition) (logged : Logged (List ℕ)) → IsOfPiece (work_of value crew) crew.counter.n crew.sizes pieces logged → IsOfPiece (work_of value crew) crew.counter.n crew.sizes (pieces ++ more) logged
+  of_pieces_more pieces more logged is = record {
+    batch = is.batch;
+    reports = is.reports;
+    texts = is.texts;
+    good = is.good;
+    block = is.block;
+    gathered = subst (λ ranges. Contains ranges (range_of is.batch)) (sym (map-append (clipped crew.counter.n) pieces more)) (Contains-append_left (map (clipped crew.counter.n) pieces) (map (clipped crew.counter.n) more) (range_of is.batch) is.gathered);
+  }
+
+  pub board_takes : (tally tally' : TallyState) (pass : PassState (List ℕ)) (more : List Addition) → IsBoard value crew tally pass → tally'.of ≡ tally.of → tally'.pieces ≡ tally.pieces ++ more → IsBoard value crew tally' pass
+  board_takes tally tally' pass more board of pieces = record {
+    counter = of ∙ board.counter;
+    future = board.future;
+    number = board.number;
+    opened = board.opened;
+    reports = subst (λ (all : List Addition). All (IsOfPiece (work_of value crew) crew.counter.n crew.sizes all) (calls_by pass.number pass.known)) (sym pieces)
+        (All-weaker (IsOfPiece (work_of value crew) crew.counter.n crew.sizes tally.pieces) (IsOfPiece (work_of value crew) crew.counter.n crew.sizes (tally.pieces ++ more)) (of_pieces_more tally.pieces more) (calls_by pass.number pass.known) board.reports);
+  }
+
+  pub board_gathers : (tally tally' : TallyState) (pass : PassState (List ℕ)) (piece : Addition) → IsBoard value crew tally pass → tally' ≡ record tally { pieces = tally.pieces ++ piece ∷ [] } → IsBoard value crew tally' pass
+  board_gathers tally tally' pass piece board is = board_takes tally tally' pass (piece ∷ []) board (ap (λ (t : TallyState). t.of) is) (ap (λ (t : TallyState). t.pieces) is)
+
+  -- the ranges of its reports are those of gathered pieces
+  pub reports_gathered : (pieces : List Addition) (calls : Journal) → All (IsOfPiece (work_of value crew) crew.counter.n crew.sizes pieces) calls → All (Contains (map (clipped crew.counter.n) pieces)) (map range_of (reports_of calls))
+  reports_gathered pieces [] all = All-nil (Contains (map (clipped crew.counter.n) pieces))
+  reports_gathered pieces (logged ∷ calls) all =
+      let P = IsOfPiece (work_of value crew) crew.counter.n crew.sizes pieces in
+      let Q = Contains (map (clipped crew.counter.n) pieces) in
+      let first = All-head P logged calls all in
+      let rest = reports_gathered pieces calls (All-tail P logged calls all) in
+      subst (λ batches. All Q (map range_of (batches ++ reports_of calls))) (sym first.reports) (All-cons Q (range_of first.batch) (map range_of (reports_of calls)) first.gathered rest)
+
+-- ---- what was handed in
+
+pub handed_later : (number : ℕ) (first later : Journal) (range : ℕ × ℕ) (on : Bool) → BeginsWith later first → IsHandedIn number first range on → IsHandedIn number later range on
+handed_later number first later range true begins handed = elim handed [
+  | inl there ↦ inl (contained_on number first later range begins there)
+  | inr strange ↦ inr (strange_on number first later begins strange)
+]
+handed_later number first later range false begins handed = end_stays first later begins handed
+
+pub handed_ok : {E : Type 0} (number : ℕ) (first later : Journal) (range : ℕ × ℕ) (result : Result Bool E) → BeginsWith later first → IfOk result (IsHandedIn number first range) → IfOk result (IsHandedIn number later range)
+handed_ok number first later range (Ok on) begins handed = handed_later number first later range on begins handed
+handed_ok number first later range (Err e) begins handed = tt
+
+-- ---- a report
+
+module _ {F : Type 0} (value : F → List ℕ → ItemValue) (crew : Crew F) (fits : IsCrew value crew) (piece : Addition) (below : piece.begin < crew.counter.n) (some : 1 ≤ piece.size) (listed : Contains crew.sizes piece.size)
+    (range : ℕ × ℕ) (range_is : range ≡ clipped crew.counter.n piece) (good : first_bad (work_of value crew) range ≡ None) where
+  abbrev work : Workload
+  work = work_of value crew
+
+  bounds : (begin size m : ℕ) (r : ℕ × ℕ) → r ≡ (min begin m, min (begin + size) m) → begin < m → 1 ≤ size → (r.0 < r.1) × (r.1 ≤ m)
+  bounds begin size m r is less one =
+      let first : r.0 ≡ min begin m = ap (λ (x : ℕ × ℕ). x.0) is in
+      let last : r.1 ≡ min (begin + size) m = ap (λ (x : ℕ × ℕ). x.1) is in
+      (omega arith, omega arith)
+
+  pub part : IsPart (size_of work) range
+  part = let both = bounds piece.begin piece.size crew.counter.n range range_is below some in record { some = both.0; within = let is = fits.indexes in let high = both.1 in omega arith }
+
+  block : IsBlock crew.counter.n crew.sizes range
+  block = record {
+    size = piece.size;
+    listed = listed;
+    length_is =
+        let first : range.0 ≡ min piece.begin crew.counter.n = ap (λ (x : ℕ × ℕ). x.0) range_is in
+        let last : range.1 ≡ min (piece.begin + piece.size) crew.counter.n = ap (λ (x : ℕ × ℕ). x.1) range_is in
+        elim (cases_lt crew.counter.n (piece.begin + piece.size)) [
+          | inl short ↦ inr (omega arith, omega arith)
+          | inr whole ↦ inl (omega arith)
+        ];
+  }
+
+  pub values_few : length (texts_in work range) ≤ range.1 - range.0
+  values_few = let p = part in let some = p.some in texts-most work range.0 range.1 (omega arith) p.within
+
+  pub values_whole : crew.future.terms.filter ≡ false → length (texts_in work range) ≡ range.1 - range.0
+  values_whole plain = let p = part in let some = p.some in texts-whole work range.0 range.1 (omega arith) p.within (fits.suits plain) good
+
+  module _ (tally tally' : TallyState) (pass pass' : PassState (List ℕ)) (journal : Journal) (board : IsBoard value crew tally pass) (tally_is : tally' ≡ record tally { pieces = tally.pieces ++ piece ∷ [] }) (gathered : IsGathered crew.counter tally')
+      (met : Meets pass journal) (pass_is : pass' ≡ record pass { known = pass'.known; seen = [] }) where
+    abbrev future : Future (List ℕ)
+    future = future_at pass.of.terms journal
+
+    abbrev batch : Batch (List ℕ)
+    batch = batch_in work range
+
+    abbrev logged : Logged (List ℕ)
+    logged = reported future pass.number batch
+
+    batch_is : range_of batch ≡ range
+    batch_is = batch_range work crew.future.terms.filter range part
+
+    pieces_are : tally'.pieces ≡ tally.pieces ++ piece ∷ []
+    pieces_are = ap (λ (t : TallyState). t.pieces) tally_is
+
+    ranges_are : map (clipped crew.counter.n) tally'.pieces ≡ map (clipped crew.counter.n) tally.pieces ++ clipped crew.counter.n piece ∷ []
+    ranges_are = ap (map (clipped crew.counter.n)) pieces_are ∙ map-append (clipped crew.counter.n) tally.pieces (piece ∷ [])
+
+    logged_is : IsOfPiece work crew.counter.n crew.sizes tally'.pieces logged
+    logged_is = record {
+      batch = batch;
+      reports = refl;
+      texts = ap (texts_in work) (sym batch_is);
+      good = ap (first_bad work) batch_is ∙ good;
+      block = subst (IsBlock crew.counter.n crew.sizes) (sym batch_is) block;
+      gathered = subst (λ ranges. Contains ranges (range_of batch)) (sym ranges_are)
+          (subst (λ r. Contains (map (clipped crew.counter.n) tally.pieces ++ r ∷ []) (range_of batch)) (batch_is ∙ range_is) (Contains-push (map (clipped crew.counter.n) tally.pieces) (range_of batch)));
+    }
+
+    -- the board where the report was logged
+    board_logged : pass'.known ≡ journal ++ logged ∷ [] → IsBoard value crew tally' pass'
+    board_logged known =
+        let P = IsOfPiece work crew.counter.n crew.sizes tally'.pieces in
+        let number : pass'.number ≡ pass.number = ap (λ (p : PassState (List ℕ)). p.number) pass_is in
+        let own : calls_by pass'.number pass'.known ≡ calls_by pass.number pass.known ++ logged ∷ [] =
+        ap (λ k. calls_by k pass'.known) number ∙ ap (calls_by pass.number) known ∙ calls_by-append pass.number journal (logged ∷ [])
+        ∙ ap (λ calls. calls_by pass.number journal ++ calls) (own_call pass.number logged refl) ∙ ap (λ calls. calls ++ logged ∷ []) met.own
+        in
+        let before = board_gathers value crew tally tally' pass piece board tally_is in
+        record {
+          counter = before.counter;
+          future = ap (λ (p : PassState (List ℕ)). p.of) pass_is ∙ board.future;
+          number = number ∙ board.number;
+          opened = begins_further opening pass.known pass'.known board.opened (begins_further pass.known journal pass'.known (saw_begins pass.known journal pass.seen met.saw) (subst (λ k. BeginsWith k journal) (sym known) (begins_more journal (logged ∷ []))));
+          reports = subst (All P) (sym own) (All-push P (calls_by pass.number pass.known) logged before.reports logged_is);
+        }
+
+    contains_logged : pass'.known ≡ journal ++ logged ∷ [] → Contains (ranges_by pass.number pass'.known) range
+    contains_logged known =
+        let one : ranges_by pass.number (logged ∷ []) ≡ range ∷ [] = ap (λ calls. map range_of (reports_of calls)) (own_call pass.number logged refl) ∙ ap (λ r. r ∷ []) batch_is in
+        subst (λ ranges. Contains ranges range) (sym (ap (ranges_by pass.number) known ∙ ranges_by-append pass.number journal (logged ∷ []) ∙ ap (λ r. ranges_by pass.number journal ++ r) one))
+        (Contains-push (ranges_by pass.number journal) range)
+
+    in_both : (index : ℕ) → range.0 ≤ index → index < range.1 → 1 ≤ times_covered (map (clipped crew.counter.n) tally.pieces) index → ⊥
+    in_both index low high covered =
+        let apart = gathered.pieces.once_below index in
+        let all : times_covered (map (clipped crew.counter.n) tally'.pieces) index ≡ times_covered (map (clipped crew.counter.n) tally.pieces) index + cond (in_range index (clipped crew.counter.n piece)) 1 0 =
+        ap (λ ranges. times_covered ranges index) ranges_are ∙ sum_by_push (λ (r : ℕ × ℕ). cond (in_range index r) 1 0) (map (clipped crew.counter.n) tally.pieces) (clipped crew.counter.n piece)
+        in
+        let here : cond {A = ℕ} (in_range index (clipped crew.counter.n piece)) 1 0 ≡ 1 = ap (λ (r : ℕ × ℕ). cond {A = ℕ} (in_range index r) 1 0) (sym range_is) ∙ inside index range.0 range.1 low high in
+        omega arith
+      where
+        inside : (index begin end : ℕ) → begin ≤ index → index < end → cond {A = ℕ} (in_range index (begin, end)) 1 0 ≡ 1
+        inside index begin end low high = grind (arith, nat_tests)
+
+    -- an index of the piece can't be covered by a report of a gathered piece
+    covered_strange : (index : ℕ) → least_covered (results_of future).batches batch.begin batch.total ≡ Some index → list_any (is_strange pass.number) journal ≡ true
+    covered_strange index e =
+        elim (list_any (is_strange pass.number) journal) as (λ b. list_any (is_strange pass.number) journal ≡ b → b ≡ true) [
+          | true ↦ λ is. refl
+          | false ↦ λ is. absurd (contradiction is)
+        ] refl
+      where
+        contradiction : list_any (is_strange pass.number) journal ≡ false → ⊥
+        contradiction none =
+            let found = found_within (is_covered (in_order (reports_of journal))) range.0 (range.1 - range.0) index e in
+            let p = part in
+            let less = p.some in
+            let reports : reports_of journal ≡ reports_of (calls_by pass.number pass.known) = none_strange pass.number journal none ∙ ap reports_of met.own in
+            let covered : is_covered (reports_of (calls_by pass.number pass.known)) index ≡ true = ap (λ batches. is_covered batches index) (sym reports) ∙ sym (is_covered-in_order (reports_of journal) index) ∙ found.2 in
+            let among = reports_gathered value crew tally.pieces (calls_by pass.number pass.known) board.reports in
+            let some_range : 1 ≤ times_covered (map range_of (reports_of (calls_by pass.number pass.known))) index = by (dec_lt 0 (times_covered (map range_of (reports_of (calls_by pass.number pass.known))) index)) covered in
+            in_both index found.0 (let high = found.1 in omega arith) (among_cover index (map range_of (reports_of (calls_by pass.number pass.known))) (map (clipped crew.counter.n) tally.pieces) among some_range)
+          where
+            by : Dec (0 < times_covered (map range_of (reports_of (calls_by pass.number pass.known))) index) → is_covered (reports_of (calls_by pass.number pass.known)) index ≡ true → 1 ≤ times_covered (map range_of (reports_of (calls_by pass.number pass.known))) index
+            by (yes more) covered = more
+            by (no none) covered = absurd (false≢true (sym (none_covers (reports_of (calls_by pass.number pass.known)) index (omega arith)) ∙ covered))
+
+    pub board_reports : (reply : Reply) → IsStep (offered future pass.number batch) (future_at pass.of.terms pass'.known) (told_by reply)
+        → IsBoard value crew tally' pass' × IsHandedIn (reporter crew) pass'.known range (not (is_drop (told_by reply)))
+    board_reports reply done =
+        let p = part in
+        let some_left = p.some in
+        let within = p.within in
+        let limit = fits.limits.indexes in
+        let is = fits.indexes in
+        elim (comes future pass.number batch (omega arith) (omega arith)) [
+          | is_over ended same drop ↦
+              let known : pass'.known ≡ journal = ap (λ (f : Future (List ℕ)). f.calls) (done.future ∙ same) in (
+                board_gathers value crew tally tally' pass' piece (board_met value crew tally pass pass' journal board met known pass_is) tally_is,
+                told true (ap is_drop done.answer ∙ drop) (ap (λ k. shows_end (flags_at k)) known ∙ ended),
+              )
+          | is_taken index e same drop ↦
+              let known : pass'.known ≡ journal = ap (λ (f : Future (List ℕ)). f.calls) (done.future ∙ same) in (
+                board_gathers value crew tally tally' pass' piece (board_met value crew tally pass pass' journal board met known pass_is) tally_is,
+                told false (ap is_drop done.answer ∙ drop) (inr (subst (λ k. list_any (is_strange k) pass'.known ≡ true) board.number (ap (list_any (is_strange pass.number)) known ∙ covered_strange index e))),
+              )
+          | is_logged new drop ↦
+              let known : pass'.known ≡ journal ++ logged ∷ [] = ap (λ (f : Future (List ℕ)). f.calls) (done.future ∙ new) in (
+                board_logged known,
+                told false (ap is_drop done.answer ∙ drop) (inl (subst (λ k. Contains (ranges_by k pass'.known) range) board.number (contains_logged known))),
+              )
+        ]
+      where
+        told : (drop : Bool) → is_drop (told_by reply) ≡ drop → IsHandedIn (reporter crew) pass'.known range (not drop) → IsHandedIn (reporter crew) pass'.known range (not (is_drop (told_by reply)))
+        told drop e handed = subst (λ b. IsHandedIn (reporter crew) pass'.known range (not b)) (sym e) handed
+
+-- ---- as the code has it
+
+pub ok_from : {X E : Type 0} (P : X → Type 0) (result : Result X E) (x : X) → result ≡ Ok x → IfOk result P → P x
+ok_from P result x is ok = subst (λ r. IfOk r P) is ok
+
+pub err_from : {X E : Type 0} (P : Type 0) (result : Result X E) (e : E) → result ≡ Err e → OnErr result P → P
+err_from P result e is err = subst (λ r. OnErr r P) is err
+
+pub batch_is_in : (job : Workload) (range : ℕ × ℕ) (begin end : ℕ) (values : List (List ℕ)) → (begin, end) ≡ range → values ≡ texts_in job range → batch_with begin values (end - begin) ≡ batch_in job range
+batch_is_in job range begin end values bounds values_are =
+    let first : begin ≡ range.0 = ap (λ (r : ℕ × ℕ). r.0) bounds in
+    let last : end ≡ range.1 = ap (λ (r : ℕ × ℕ). r.1) bounds in
+    λ i. batch_with (first i) (values_are i) (last i - first i)
+
+module _ {F : Type 0} (value : F → List ℕ → ItemValue) (crew : Crew F) (fits : IsCrew value crew) (piece : PieceState) (is : IsPieceOf crew piece) (begin end : ℕ) (values : List (List ℕ)) (bounds : (begin, end) ≡ clipped piece.of.n piece.addition)
+    (values_are : values ≡ texts_in (work_of value crew) (range_in crew piece)) (good : first_bad (work_of value crew) (range_in crew piece) ≡ None) where
+  bounds_are : (begin, end) ≡ range_in crew piece
+  bounds_are = bounds ∙ ap (λ (c : CounterId). clipped c.n piece.addition) is.of
+
+  pub code_few : length values ≤ end - begin
+  code_few =
+      let few = values_few value crew fits piece.addition is.below is.some is.listed (range_in crew piece) refl good in
+      let first : begin ≡ (range_in crew piece).0 = ap (λ (r : ℕ × ℕ). r.0) bounds_are in
+      let last : end ≡ (range_in crew piece).1 = ap (λ (r : ℕ × ℕ). r.1) bounds_are in
+      let long : length values ≡ length (texts_in (work_of value crew) (range_in crew piece)) = ap length values_are in
+      omega (arith, few, first, last, long)
+
+  pub code_whole : crew.future.terms.filter ≡ false → length values ≡ end - begin
+  code_whole plain =
+      let whole = values_whole value crew fits piece.addition is.below is.some is.listed (range_in crew piece) refl good plain in
+      let first : begin ≡ (range_in crew piece).0 = ap (λ (r : ℕ × ℕ). r.0) bounds_are in
+      let last : end ≡ (range_in crew piece).1 = ap (λ (r : ℕ × ℕ). r.1) bounds_are in
+      let long : length values ≡ length (texts_in (work_of value crew) (range_in crew piece)) = ap length values_are in
+      omega (arith, whole, first, last, long)
+
+  pub code_reports : (tally tally' : TallyState) (pass pass' : PassState (List ℕ)) (journal : Journal) → IsBoard value crew tally pass → tally' ≡ record tally { pieces = tally.pieces ++ piece.addition ∷ [] } → IsGathered crew.counter tally'
+      → Meets pass journal → pass' ≡ record pass { known = pass'.known; seen = [] } → (reply : Reply)
+      → IsStep (step (future_at pass.of.terms journal) pass.number (ReportBatch begin values (end - begin))) (future_at pass.of.terms pass'.known) (told_by reply)
+      → IsBoard value crew tally' pass' × IsHandedIn (reporter crew) pass'.known (range_in crew piece) (not (is_drop (told_by reply)))
+  code_reports tally tally' pass pass' journal board tally_is gathered met pass_is reply done =
+      board_reports value crew fits piece.addition is.below is.some is.listed (range_in crew piece) refl good tally tally' pass pass' journal board tally_is gathered met pass_is reply
+      (subst (λ batch. IsStep (offered (future_at pass.of.terms journal) pass.number batch) (future_at pass.of.terms pass'.known) (told_by reply)) (batch_is_in (work_of value crew) (range_in crew piece) begin end values bounds_are values_are) done)

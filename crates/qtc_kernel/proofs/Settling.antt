@@ -1,0 +1,468 @@
+-- What the desks of an engine keep, put together once all of them were brought in.
+use Rattle.std.proofs.Common.{◌≡◌, ◌⊎◌, ℕ, ◌+◌, ◌<◌, ◌≤◌, Bool, true, false, not, ◌||◌, ◌&&◌, ◌==◌, nat_lt, List, [], ◌∷◌, ◌++◌, All, cond, map, length, fold, if◌then◌else◌, inl, inr, refl, ap, sym, ◌∙◌, subst, arith, append_assoc, length-append}
+use Rattle.std.specs.Prelude.{Contains}
+use Rattle.std.specs.List.{list_any}
+use native.Mathlib.Decide.{dec_lt}
+use Rattle.std.proofs.lemmas.Bool.{false≢true}
+use Rattle.std.proofs.lemmas.Bool.Decides.{nat_tests}
+use Rattle.std.proofs.lemmas.List.{map-append}
+use Rattle.std.proofs.lemmas.List.Elements.{All-append, All-cons, All-head, All-nil, All-tail, All-weaker, filter-append}
+use Rattle.std.proofs.lemmas.List.Sums.{sum_by-cons}
+use Rattle.qtc_base.specs.Ranges.{times_covered}
+use Rattle.qtc_claim.specs.Claims.{Addition, Worker, claims_of, clipped, gave, times_numbered}
+use Rattle.qtc_claim.specs.Counter.{CounterId, HasAll, IsGathered, KnowsClaims, TallyState}
+use Rattle.qtc_events.specs.Flags.{Standing, new_flags}
+use Rattle.qtc_events.specs.Calls.{after, has_effect}
+use Rattle.qtc_events.specs.Journal.{after_entry}
+use Rattle.qtc_events.specs.declared.calls.Call.{Call}
+use Rattle.qtc_events.specs.declared.calls.Call.TheVariants.{Start, Report, Account, Suspend, Resume, ReportSuspended, Cancel, Fail, Finish}
+use Rattle.qtc_events.specs.declared.entries.Reached.{Reached}
+use Rattle.qtc_future.specs.Future.{Future, Logged, entries_of, flags_of}
+use Rattle.qtc_future.specs.Steps.{Effect, by_row, logged_by, stays, with_call}
+use Rattle.qtc_future.specs.declared.requests.Request.TheVariants.{Finish as AskFinish}
+use Rattle.qtc_future.proofs.Growing.{flags-push}
+use Rattle.qtc_ops.specs.ItemValue.{ItemValue}
+use Rattle.qtc_shared.specs.Journals.{BeginsWith, IsAllowed, IsJournal, Saw, calls_by, flags_at, is_makers}
+use Rattle.qtc_shared.specs.Parts.{Terms, future_at}
+use Rattle.qtc_shared.specs.Laws.{KnownIsKept}
+use Rattle.qtc_shared.specs.Passes.{FutureId, IsHold, Makes, Meets, PassState, Stays}
+use Rattle.qtc_shared.proofs.Prefixes.{begins_further, begins_same, saw_begins}
+use Rattle.qtc_kernel.specs.Crews.{AreReported, Crew, DeskState, HasMetEnd, IsCrew, IsDesk, IsOfPiece, IsOwnCall, addition_in, given_at, is_report, is_strange, opening, ranges_by, reporter, shows_end, work_of}
+use Rattle.qtc_kernel.specs.BroughtIn.{AreBroughtIn}
+use Rattle.qtc_kernel.specs.Endings.{AreGathered, AreSettled, IsMet, calls_at, given_up_at, with_desk, workers_at}
+use Rattle.qtc_kernel.specs.Gathering.{IsClaimed}
+use Rattle.qtc_kernel.specs.Runs.{times_called}
+use Rattle.qtc_kernel.specs.WorkedOut.{IsWorkedOut}
+use Rattle.qtc_kernel.specs.Workload.{Workload}
+use Rattle.qtc_kernel.proofs.Counting.{calls-append, times-append, times-cons}
+use Rattle.qtc_kernel.proofs.Ending.{IsOurs, all_left, all_ours, desks_are_worked_out, not_finish, tail_by, unfinished_after}
+use Rattle.qtc_kernel.proofs.Passing.{Journal, begins_more, calls_by-append, contained_on, met_end, stays_known, strange_on}
+
+-- ---- the finish
+
+finish_stood : (s : Standing) → has_effect s Finish ≡ false → s.finished ≡ true
+finish_stood s h = grind arith
+
+finish_ends : (s : Standing) (reached : Reached) → (after s Finish reached).finished ≡ true
+finish_ends s reached = grind arith
+
+-- it was logged, or the future was finished before
+finished_either : (future new : Future (List ℕ)) (caller : ℕ) → new ≡ (by_row future caller Finish []).future
+    → ((new ≡ future) × ((flags_of future).finished ≡ true)) ⊎ (new ≡ with_call future (logged_by future caller Finish [] []))
+finished_either future new caller is = by (has_effect (flags_of future) Finish) refl is
+  where
+    by : (b : Bool) → has_effect (flags_of future) Finish ≡ b
+        → new ≡ (if b then record { future = with_call future (logged_by future caller Finish [] []); told = Effect b } else stays future (Effect b)).future
+        → ((new ≡ future) × ((flags_of future).finished ≡ true)) ⊎ (new ≡ with_call future (logged_by future caller Finish [] []))
+    by true e is = inr is
+    by false e is = inl (is, finish_stood (flags_of future) e)
+
+-- in both cases it is finished now
+pub finished_now : (future new : Future (List ℕ)) (caller : ℕ) → new ≡ (by_row future caller Finish []).future → (flags_of new).finished ≡ true
+finished_now future new caller is = elim (finished_either future new caller is) [
+  | inl same ↦ ap (λ (f : Future (List ℕ)). (flags_of f).finished) same.0 ∙ same.1
+  | inr more ↦
+      let logged : Logged (List ℕ) = logged_by future caller Finish [] [] in
+      ap (λ (f : Future (List ℕ)). (flags_of f).finished) more ∙ ap (λ (s : Standing). s.finished) (flags-push future logged) ∙ finish_ends (flags_of future) logged.entry.reached
+]
+
+-- in a hold of the future; the pass then met what that left
+module _ (old between new : PassState (List ℕ)) (effect : Bool) (finish : IsHold old between (Makes old AskFinish (Effect effect))) (stay : IsHold between new Stays) (kept : KnownIsKept (List ℕ)) where
+  pub known_same : new.known ≡ between.known
+  known_same =
+      stays_known between new stay
+      ∙ kept.last between stay.journal stay.met (finished_now (future_at old.of.terms finish.journal) (future_at old.of.terms between.known) old.number finish.done.future)
+
+  pub finished_new : (flags_at new.known).finished ≡ true
+  finished_new =
+      ap (λ (journal : Journal). (flags_at journal).finished) known_same
+      ∙ finished_now (future_at old.of.terms finish.journal) (future_at old.of.terms between.known) old.number finish.done.future
+
+  pub lawful_new : IsJournal old.of.terms new.known
+  lawful_new =
+      subst (IsJournal old.of.terms) (sym (stays_known between new stay))
+      (subst (λ (f : FutureId). IsJournal f.terms stay.journal) (ap (λ (p : PassState (List ℕ)). p.of) finish.pass) stay.met.lawful)
+
+  pub future_new : future_at old.of.terms new.known ≡ (by_row (future_at old.of.terms finish.journal) old.number Finish []).future
+  future_new = ap (future_at old.of.terms) known_same ∙ finish.done.future
+
+-- ---- whose calls they are
+
+module _ (work : Workload) (n : ℕ) (sizes : List ℕ) (pieces : List Addition) (workers : ℕ) where
+  unfinished_from : (s : Standing) (journal : Journal) → s.finished ≡ false → All (IsOurs work n sizes pieces workers) journal → All (IsAllowed (workers + 1)) journal → (fold after_entry s (entries_of journal)).finished ≡ false
+  unfinished_from s [] none ours allowed = none
+  unfinished_from s (logged ∷ journal) none ours allowed =
+      unfinished_from (after_entry s logged.entry) journal
+      (unfinished_after s logged.entry.call logged.entry.reached
+      (not_finish work n sizes pieces workers logged (All-head (IsOurs work n sizes pieces workers) logged journal ours) (All-head (IsAllowed (workers + 1)) logged journal allowed)) none)
+      (All-tail (IsOurs work n sizes pieces workers) logged journal ours) (All-tail (IsAllowed (workers + 1)) logged journal allowed)
+
+  unfinished : (journal : Journal) → All (IsOurs work n sizes pieces workers) journal → All (IsAllowed (workers + 1)) journal → (flags_at journal).finished ≡ false
+  unfinished journal ours allowed = unfinished_from new_flags journal refl ours allowed
+
+  abbrev Own : Logged (List ℕ) → Type 0
+  Own logged = IsOwnCall work false logged.entry.call logged.item
+
+  own_no_report : (call : Call) (item : List ℕ) → IsOwnCall work false call item → is_report call ≡ false
+  own_no_report Start item own = refl
+  own_no_report (Report begin kept total) item own = absurd own
+  own_no_report (Account total) item own = refl
+  own_no_report Suspend item own = refl
+  own_no_report Resume item own = refl
+  own_no_report ReportSuspended item own = refl
+  own_no_report Cancel item own = refl
+  own_no_report (Fail index) item own = refl
+  own_no_report Finish item own = refl
+
+  report_makers : (call : Call) → is_report call ≡ true → is_makers call ≡ true
+  report_makers (Report begin kept total) e = refl
+  report_makers Start e = absurd (cc)
+  report_makers (Account total) e = absurd (cc)
+  report_makers Suspend e = absurd (cc)
+  report_makers Resume e = absurd (cc)
+  report_makers ReportSuspended e = absurd (cc)
+  report_makers Cancel e = absurd (cc)
+  report_makers (Fail index) e = absurd (cc)
+  report_makers Finish e = absurd (cc)
+
+  not_strange : (logged : Logged (List ℕ)) → (logged.entry.caller < workers → Own logged) → IsAllowed (workers + 1) logged → is_strange workers logged ≡ false
+  not_strange logged own allowed =
+      elim (is_report logged.entry.call) as (λ b. is_report logged.entry.call ≡ b → (b && not (logged.entry.caller == workers)) ≡ false) [
+        | true ↦ λ e. by (dec_lt logged.entry.caller workers) e
+        | false ↦ λ e. refl
+      ] refl
+    where
+      same : (caller : ℕ) → caller ≡ workers → not (caller == workers) ≡ false
+      same caller is = grind (arith, nat_tests)
+
+      by : Dec (logged.entry.caller < workers) → is_report logged.entry.call ≡ true → not (logged.entry.caller == workers) ≡ false
+      by (yes less) e = absurd (false≢true (sym (own_no_report logged.entry.call logged.item (own less)) ∙ e))
+      by (no more) e = let below : logged.entry.caller < workers + 1 = allowed.maker (report_makers logged.entry.call e) in same logged.entry.caller (omega arith)
+
+  -- one number alone reports
+  none_is_strange : (journal : Journal) → ((number : ℕ) → number < workers → All Own (calls_by number journal)) → All (IsAllowed (workers + 1)) journal → list_any (is_strange workers) journal ≡ false
+  none_is_strange [] own allowed = refl
+  none_is_strange (logged ∷ journal) own allowed =
+      both (is_strange workers logged) (list_any (is_strange workers) journal)
+      (not_strange logged (λ below. All-head Own logged (calls_by logged.entry.caller journal) (subst (All Own) (here logged.entry.caller refl) (own logged.entry.caller below))) (All-head (IsAllowed (workers + 1)) logged journal allowed))
+      (none_is_strange journal (λ number below. tail_by work n sizes pieces workers Own number logged journal (own number below)) (All-tail (IsAllowed (workers + 1)) logged journal allowed))
+    where
+      both : (a b : Bool) → a ≡ false → b ≡ false → (a || b) ≡ false
+      both a b h k = grind arith
+
+      here : (number : ℕ) → logged.entry.caller ≡ number → calls_by number (logged ∷ journal) ≡ logged ∷ calls_by number journal
+      here number is = let same : (logged.entry.caller == number) ≡ true = grind (arith, nat_tests) in rw same refl
+
+-- ---- sums over desks
+
+times_both : (n index : ℕ) (xs ys : List Addition) → times_covered (map (clipped n) (xs ++ ys)) index ≡ times_covered (map (clipped n) xs) index + times_covered (map (clipped n) ys) index
+times_both n index xs ys = ap (λ ranges. times_covered ranges index) (map-append (clipped n) xs ys) ∙ times-append index (map (clipped n) xs) (map (clipped n) ys)
+
+-- those that gave a piece cover no more than all
+times_gave : (n index : ℕ) (claims : List Addition) → times_covered (map (clipped n) (gave n claims)) index ≤ times_covered (map (clipped n) claims) index
+times_gave n index [] = omega arith
+times_gave n index (claim ∷ claims) =
+    let rest = times_gave n index claims in
+    let all = times-cons index (clipped n claim) (map (clipped n) claims) in
+    elim (nat_lt claim.begin n) as (λ b. times_covered (map (clipped n) (cond b (claim ∷ gave n claims) (gave n claims))) index ≤ times_covered (map (clipped n) (claim ∷ claims)) index) [
+      | true ↦ let some = times-cons index (clipped n claim) (map (clipped n) (gave n claims)) in omega arith
+      | false ↦ omega arith
+    ]
+
+module _ {F : Type 0} (value : F → List ℕ → ItemValue) (called : F → List ℕ) (crew : Crew F) where
+  given_claims : (desk : DeskState F) (desks : List (DeskState F)) → gave crew.counter.n (claims_of (workers_at (desk ∷ desks))) ≡ given_at crew.counter.n desk ++ gave crew.counter.n (claims_of (workers_at desks))
+  given_claims desk desks = filter-append (λ (addition : Addition). nat_lt addition.begin crew.counter.n) desk.seat.worker.claims (claims_of (workers_at desks))
+
+  most : (index : ℕ) (desks : List (DeskState F)) → All (IsDesk value called crew) desks → times_called (calls_at called desks) index ≤ times_covered (map (clipped crew.counter.n) (claims_of (workers_at desks))) index
+  most index [] all = omega arith
+  most index (desk ∷ desks) all =
+      let rest = most index desks (All-tail (IsDesk value called crew) desk desks all) in
+      let own = (All-head (IsDesk value called crew) desk desks all).worked.most index in
+      let some = times_gave crew.counter.n index desk.seat.worker.claims in
+      let calls = calls-append index (called desk.function) (calls_at called desks) in
+      let claims = times_both crew.counter.n index desk.seat.worker.claims (claims_of (workers_at desks)) in
+      omega arith
+
+  least : (index : ℕ) (desks : List (DeskState F)) → All (IsDesk value called crew) desks → times_covered (map (clipped crew.counter.n) (gave crew.counter.n (claims_of (workers_at desks)))) index
+      ≤ times_called (calls_at called desks) index + times_covered (map (clipped crew.counter.n) (given_up_at desks)) index
+  least index [] all = omega arith
+  least index (desk ∷ desks) all =
+      let n = crew.counter.n in
+      let worked = (All-head (IsDesk value called crew) desk desks all).worked in
+      let rest = least index desks (All-tail (IsDesk value called crew) desk desks all) in
+      let own = worked.least index in
+      let parts : times_covered (map (clipped n) (given_at n desk)) index ≡ times_covered (map (clipped n) worked.whole) index + times_covered (map (clipped n) (addition_in desk.given_up)) index =
+      ap (λ claims. times_covered (map (clipped n) claims) index) worked.parts ∙ times_both n index worked.whole (addition_in desk.given_up)
+      in
+      let all_given : times_covered (map (clipped n) (gave n (claims_of (workers_at (desk ∷ desks))))) index ≡ times_covered (map (clipped n) (given_at n desk)) index + times_covered (map (clipped n) (gave n (claims_of (workers_at desks)))) index =
+      ap (λ claims. times_covered (map (clipped n) claims) index) (given_claims desk desks) ∙ times_both n index (given_at n desk) (gave n (claims_of (workers_at desks)))
+      in
+      let calls = calls-append index (called desk.function) (calls_at called desks) in
+      let ups = times_both n index (addition_in desk.given_up) (given_up_at desks) in
+      omega arith
+
+  -- ---- a desk that was brought in
+
+  abbrev OwnCall : Logged (List ℕ) → Type 0
+  OwnCall logged = IsOwnCall (work_of value crew) false logged.entry.call logged.item
+
+  -- what it knows and what it met is in the journal, with its own calls
+  record IsIn (journal : Journal) (desk : DeskState F) : Type 0 where
+    desk_is : IsDesk value called crew desk
+    own : All OwnCall (calls_by desk.seat.worker.number journal)
+    begins : BeginsWith journal desk.pass.known
+    ends : HasMetEnd desk.pass → shows_end (flags_at journal) ≡ true
+
+  own_known : (desk : DeskState F) → IsDesk value called crew desk → desk.lacks ≡ false → All OwnCall (calls_by desk.pass.number desk.pass.known)
+  own_known desk is lacks = subst (λ b. All (λ logged. IsOwnCall (work_of value crew) b logged.entry.call logged.item) (calls_by desk.pass.number desk.pass.known)) lacks is.seated.own
+
+  own_met : (desk : DeskState F) (journal : Journal) → IsDesk value called crew desk → desk.lacks ≡ false → Meets desk.pass journal → All OwnCall (calls_by desk.seat.worker.number journal)
+  own_met desk journal is lacks met = subst (λ k. All OwnCall (calls_by k journal)) is.seated.numbered (subst (All OwnCall) (sym met.own) (own_known desk is lacks))
+
+  first_in : (desk : DeskState F) (journal : Journal) → IsDesk value called crew desk → desk.lacks ≡ false → Meets desk.pass journal → IsIn journal desk
+  first_in desk journal is lacks met = record {
+    desk_is = is;
+    own = own_met desk journal is lacks met;
+    begins = saw_begins desk.pass.known journal desk.pass.seen met.saw;
+    ends = met_end desk.pass.known journal desk.pass.seen met.saw;
+  }
+
+  other_in : (desk : DeskState F) (first journal known : Journal) → IsDesk value called crew desk → desk.lacks ≡ false → IsMet first desk → BeginsWith journal first → Meets desk.pass known → BeginsWith known journal → IsIn journal desk
+  other_in desk first journal known is lacks met grew later begins =
+      let before : BeginsWith journal desk.pass.known = begins_further desk.pass.known first journal met.known grew in
+      let number = desk.seat.worker.number in
+      record {
+        desk_is = is;
+        own = all_left OwnCall (calls_by number journal) (calls_by number begins.later)
+            (subst (All OwnCall) (ap (calls_by number) begins.is ∙ calls_by-append number journal begins.later) (own_met desk known is lacks later));
+        begins = before;
+        ends = met_end desk.pass.known journal desk.pass.seen (subst (Saw desk.pass.known journal) (sym met.unseen) before);
+      }
+
+  others_in : (desks : List (DeskState F)) (first journal known : Journal) → All (IsDesk value called crew) desks → All (λ desk. desk.lacks ≡ false) desks → All (IsMet first) desks → BeginsWith journal first
+      → All (λ desk. Meets desk.pass known) desks → BeginsWith known journal → All (IsIn journal) desks
+  others_in [] first journal known are lacks met grew later begins = All-nil (IsIn journal)
+  others_in (desk ∷ desks) first journal known are lacks met grew later begins =
+      let Lacks : DeskState F → Type 0 = λ d. d.lacks ≡ false in
+      let Later : DeskState F → Type 0 = λ d. Meets d.pass known in
+      All-cons (IsIn journal) desk desks
+      (other_in desk first journal known (All-head (IsDesk value called crew) desk desks are) (All-head Lacks desk desks lacks) (All-head (IsMet first) desk desks met) grew (All-head Later desk desks later) begins)
+      (others_in desks first journal known (All-tail (IsDesk value called crew) desk desks are) (All-tail Lacks desk desks lacks) (All-tail (IsMet first) desk desks met) grew (All-tail Later desk desks later) begins)
+
+  -- whoever has a number among them made just its own calls
+  own_all : (journal : Journal) (number : ℕ) (desks : List (DeskState F)) → All (IsIn journal) desks → 1 ≤ times_numbered number (workers_at desks) → All OwnCall (calls_by number journal)
+  own_all journal number [] all some = absurd (omega arith)
+  own_all journal number (desk ∷ desks) all some =
+      elim (desk.seat.worker.number == number) as (λ b. (desk.seat.worker.number == number) ≡ b → All OwnCall (calls_by number journal)) [
+        | true ↦ λ e. subst (λ k. All OwnCall (calls_by k journal)) (equal desk.seat.worker.number number e) (All-head (IsIn journal) desk desks all).own
+        | false ↦ λ e.
+            own_all journal number desks (All-tail (IsIn journal) desk desks all)
+            (let counts = sum_by-cons (λ (worker : Worker). cond (worker.number == number) 1 0) desk.seat.worker (workers_at desks) in
+            let none : cond {A = ℕ} (desk.seat.worker.number == number) 1 0 ≡ 0 = ap (λ b. cond {A = ℕ} b 1 0) e in
+            omega arith)
+      ] refl
+    where
+      equal : (a b : ℕ) → (a == b) ≡ true → a ≡ b
+      equal a b e = grind (arith, nat_tests)
+
+  -- where nothing was canceled, each claim was reported
+  all_reported : (journal : Journal) (desks : List (DeskState F)) → All (IsIn journal) desks → (shows_end (flags_at journal) ≡ true → ⊥) → list_any (is_strange (reporter crew)) journal ≡ false
+      → AreReported crew.counter.n (reporter crew) (gave crew.counter.n (claims_of (workers_at desks))) journal
+  all_reported journal [] all going none = All-nil (λ claim. Contains (ranges_by (reporter crew) journal) (clipped crew.counter.n claim))
+  all_reported journal (desk ∷ desks) all going none =
+      subst (λ claims. AreReported crew.counter.n (reporter crew) claims journal) (sym (given_claims desk desks))
+      (All-append Reported (given_at crew.counter.n desk) (gave crew.counter.n (claims_of (workers_at desks))) one (all_reported journal desks (All-tail (IsIn journal) desk desks all) going none))
+    where
+      Reported : Addition → Type 0
+      Reported claim = Contains (ranges_by (reporter crew) journal) (clipped crew.counter.n claim)
+
+      is : IsIn journal desk
+      is = All-head (IsIn journal) desk desks all
+
+      one : All Reported (given_at crew.counter.n desk)
+      one = elim is.desk_is.handed [
+        | inl reported ↦ All-weaker (λ claim. Contains (ranges_by (reporter crew) desk.pass.known) (clipped crew.counter.n claim)) Reported (λ claim. contained_on (reporter crew) desk.pass.known journal (clipped crew.counter.n claim) is.begins) (given_at crew.counter.n desk) reported
+        | inr (inl met) ↦ absurd (going (is.ends met))
+        | inr (inr strange) ↦ absurd (false≢true (sym none ∙ strange_on (reporter crew) desk.pass.known journal is.begins strange))
+      ]
+
+-- ---- the tally
+
+-- a desk is gathered, and then the others
+module _ {F : Type 0} (first : DeskState F) (others : List (DeskState F)) (journal : Journal) (before one all last : TallyState) (gathers : one ≡ with_desk first.seat first.given_up before) (gathered : AreGathered journal one all others) (same : last ≡ all) where
+  pub of_all : last.of ≡ before.of
+  of_all = ap (λ (t : TallyState). t.of) same ∙ gathered.of ∙ ap (λ (t : TallyState). t.of) gathers
+
+  pub workers_all : last.workers ≡ before.workers ++ workers_at (first ∷ others)
+  workers_all =
+      ap (λ (t : TallyState). t.workers) same ∙ gathered.workers ∙ ap (λ (t : TallyState). t.workers ++ workers_at others) gathers
+      ∙ append_assoc before.workers (first.seat.worker ∷ []) (workers_at others)
+
+  pub pieces_all : last.pieces ≡ before.pieces ++ given_up_at (first ∷ others)
+  pieces_all =
+      ap (λ (t : TallyState). t.pieces) same ∙ gathered.pieces ∙ ap (λ (t : TallyState). t.pieces ++ given_up_at others) gathers
+      ∙ append_assoc before.pieces (addition_in first.given_up) (given_up_at others)
+
+-- ---- all together
+
+module _ {F : Type 0} (value : F → List ℕ → ItemValue) (called : F → List ℕ) (crew : Crew F) (fits : IsCrew value crew) (first : DeskState F) (others : List (DeskState F)) (known : Journal) (s : AreSettled value crew first others known)
+    (count : length (first ∷ others) ≡ crew.counter.workers) (first_is : IsDesk value called crew first) (others_are : All (IsDesk value called crew) others) (met : All (IsMet first.pass.known) others)
+    (over : (crew.counter.n ≤ first.seat.worker.seen) ⊎ HasMetEnd first.pass) (no_lack : first.lacks ≡ false) (none_lack : All (λ desk. desk.lacks ≡ false) others) where
+  abbrev work : Workload
+  work = work_of value crew
+
+  abbrev n : ℕ
+  n = crew.counter.n
+
+  abbrev desks : List (DeskState F)
+  desks = first ∷ others
+
+  abbrev terms : Terms
+  terms = first.pass.of.terms
+
+  terms_are : terms ≡ crew.future.terms
+  terms_are = ap (λ (f : FutureId). f.terms) first_is.seated.future
+
+  abbrev logged : Logged (List ℕ)
+  logged = logged_by (future_at terms s.journal) first.pass.number Finish [] []
+
+  either : ((known ≡ s.journal) × ((flags_at s.journal).finished ≡ true)) ⊎ (known ≡ s.journal ++ logged ∷ [])
+  either = elim (finished_either (future_at terms s.journal) (future_at terms known) first.pass.number s.finished) [
+    | inl same ↦ inl (ap (λ (f : Future (List ℕ)). f.calls) same.0, same.1)
+    | inr more ↦ inr (ap (λ (f : Future (List ℕ)). f.calls) more)
+  ]
+
+  begins : BeginsWith known s.journal
+  begins = elim either [
+    | inl same ↦ subst (λ k. BeginsWith k s.journal) (sym same.0) (begins_same s.journal)
+    | inr more ↦ subst (λ k. BeginsWith k s.journal) (sym more) (begins_more s.journal (logged ∷ []))
+  ]
+
+  are_in : All (IsIn value called crew s.journal) desks
+  are_in =
+      let one = first_in value called crew first s.journal first_is no_lack s.met in
+      All-cons (IsIn value called crew s.journal) first others one
+      (others_in value called crew others first.pass.known s.journal known others_are none_lack met one.begins s.others_met begins)
+
+  are_desks : All (IsDesk value called crew) desks
+  are_desks = All-cons (IsDesk value called crew) first others first_is others_are
+
+  -- ---- the tally
+
+  tally_of : s.tally.of ≡ crew.counter
+  tally_of = s.of ∙ s.board_is.counter
+
+  count_at : (ds : List (DeskState F)) → length (workers_at ds) ≡ length ds
+  count_at [] = refl
+  count_at (d ∷ ds) = let rest = count_at ds in omega arith
+
+  workers_are : s.tally.workers ≡ workers_at desks
+  workers_are = s.workers ∙ ap (λ ws. ws ++ workers_at desks) (none s.before.workers few)
+    where
+      none : (ws : List Worker) → length ws ≡ 0 → ws ≡ []
+      none [] e = refl
+      none (w ∷ ws) e = absurd (omega arith)
+
+      few : length s.before.workers ≡ 0
+      few =
+          let all : length s.tally.workers ≡ length s.before.workers + length (workers_at desks) = ap length s.workers ∙ length-append s.before.workers (workers_at desks) in
+          let some = count_at desks in
+          let most_of = s.gathered.count in
+          omega (arith, all, some, most_of, count)
+
+  has_all : HasAll s.tally
+  has_all = ap length workers_are ∙ count_at desks ∙ count ∙ ap (λ (c : CounterId). c.workers) (sym tally_of)
+
+  knows : KnowsClaims s.tally
+  knows = s.knows has_all
+
+  -- ---- whose calls they are
+
+  own : (number : ℕ) → number < crew.counter.workers → All (OwnCall value called crew) (calls_by number s.journal)
+  own number below =
+      let one : times_numbered number (workers_at desks) ≡ 1 =
+      ap (times_numbered number) (sym workers_are) ∙ knows.numbers number (subst (λ (c : CounterId). number < c.workers) (sym tally_of) below)
+      in
+      own_all value called crew s.journal number desks are_in (omega (arith, one))
+
+  reports : All (IsOfPiece work n crew.sizes s.before.pieces) (calls_by (reporter crew) s.journal)
+  reports =
+      let P = IsOfPiece work n crew.sizes s.before.pieces in
+      let at_known : All P (calls_by (reporter crew) known) =
+      subst (λ j. All P (calls_by (reporter crew) j)) s.board_knows (subst (λ k. All P (calls_by k s.board.known)) s.board_is.number s.board_is.reports)
+      in
+      all_left P (calls_by (reporter crew) s.journal) (calls_by (reporter crew) begins.later)
+      (subst (All P) (ap (calls_by (reporter crew)) begins.is ∙ calls_by-append (reporter crew) s.journal begins.later) at_known)
+
+  allowed : All (IsAllowed (crew.counter.workers + 1)) s.journal
+  allowed = subst (λ makers. All (IsAllowed makers) s.journal) (ap (λ (t : Terms). t.makers) terms_are ∙ fits.makers) s.met.lawful.allowed
+
+  ours : All (IsOurs work n crew.sizes s.before.pieces crew.counter.workers) s.journal
+  ours = all_ours work n crew.sizes s.before.pieces crew.counter.workers s.journal reports own
+
+  open_yet : (flags_at s.journal).finished ≡ false
+  open_yet = unfinished work n crew.sizes s.before.pieces crew.counter.workers s.journal ours allowed
+
+  none_strange : list_any (is_strange (reporter crew)) s.journal ≡ false
+  none_strange = none_is_strange work n crew.sizes s.before.pieces crew.counter.workers s.journal own allowed
+
+  -- where nothing was canceled, no end stands
+  going : (flags_at s.journal).canceled ≡ false → shows_end (flags_at s.journal) ≡ true → ⊥
+  going not_canceled ended = both (flags_at s.journal).canceled (flags_at s.journal).finished not_canceled open_yet ended
+    where
+      both : (a b : Bool) → a ≡ false → b ≡ false → (a || b) ≡ true → ⊥
+      both a b h k e = false≢true (sym (none a b h k) ∙ e)
+        where
+          none : (a b : Bool) → a ≡ false → b ≡ false → (a || b) ≡ false
+          none a b h k = grind arith
+
+  claimed : (flags_at s.journal).canceled ≡ false → IsClaimed s.tally
+  claimed not_canceled = record {
+    all = has_all;
+    saw = (
+      first.seat.worker,
+      subst (λ ws. Contains ws first.seat.worker) (sym workers_are) (0, omega arith, refl),
+      subst (λ (c : CounterId). c.n ≤ first.seat.worker.seen) (sym tally_of)
+          (elim over [
+            | inl past ↦ past
+            | inr ended ↦ absurd (going not_canceled ((All-head (IsIn value called crew s.journal) first others are_in).ends ended))
+          ]),
+    );
+  }
+
+  brought_in : (calls : List ℕ) → calls ≡ called first.function ++ calls_at called others → AreBroughtIn work crew.sizes crew.future.terms s.journal s.tally calls
+  brought_in calls calls_are = record {
+    indexes = ap (λ (c : CounterId). c.n) tally_of ∙ fits.indexes;
+    makers = fits.makers ∙ ap (λ (c : CounterId). c.workers + 1) (sym tally_of);
+    opened = begins_further opening first.pass.known s.journal first_is.seated.opened (All-head (IsIn value called crew s.journal) first others are_in).begins;
+    pieces = s.before.pieces;
+    own = λ number below. own number (subst (λ (c : CounterId). number < c.workers) tally_of below);
+    reports = subst (λ (c : CounterId). All (IsOfPiece work c.n crew.sizes s.before.pieces) (calls_by c.workers s.journal)) (sym tally_of) reports;
+    gathered = subst (λ c. IsGathered c s.tally) (sym tally_of) s.gathered;
+    knows = knows;
+    all = has_all;
+    given_up = given_up_at desks;
+    parts = s.pieces;
+    most = λ index.
+        subst (λ (c : CounterId). times_called calls index ≤ times_covered (map (clipped c.n) (claims_of s.tally.workers)) index) (sym tally_of)
+        (subst (λ ws. times_called calls index ≤ times_covered (map (clipped n) (claims_of ws)) index) (sym workers_are)
+        (subst (λ list. times_called list index ≤ times_covered (map (clipped n) (claims_of (workers_at desks))) index) (sym calls_are) (most value called crew index desks are_desks)));
+    least = λ index.
+        subst (λ (c : CounterId). times_covered (map (clipped c.n) (gave c.n (claims_of s.tally.workers))) index ≤ times_called calls index + times_covered (map (clipped c.n) (given_up_at desks)) index) (sym tally_of)
+        (subst (λ ws. times_covered (map (clipped n) (gave n (claims_of ws))) index ≤ times_called calls index + times_covered (map (clipped n) (given_up_at desks)) index) (sym workers_are)
+        (subst (λ list. times_covered (map (clipped n) (gave n (claims_of (workers_at desks)))) index ≤ times_called list index + times_covered (map (clipped n) (given_up_at desks)) index) (sym calls_are) (least value called crew index desks are_desks)));
+    reported = λ not_canceled.
+        subst (λ (c : CounterId). AreReported c.n c.workers (gave c.n (claims_of s.tally.workers)) s.journal) (sym tally_of)
+        (subst (λ ws. AreReported n (reporter crew) (gave n (claims_of ws)) s.journal) (sym workers_are)
+        (all_reported value called crew s.journal desks are_in (going not_canceled) none_strange));
+    claimed = claimed;
+  }
+
+  pub worked_out : (calls : List ℕ) → calls ≡ called first.function ++ calls_at called others → IsWorkedOut work crew.sizes crew.future.terms known calls
+  worked_out calls calls_are = elim either [
+    | inl same ↦ absurd (false≢true (sym open_yet ∙ same.1))
+    | inr more ↦
+        subst (λ j. IsWorkedOut work crew.sizes crew.future.terms j calls) (sym more)
+        (desks_are_worked_out work crew.sizes crew.future.terms s.journal s.tally calls logged (brought_in calls calls_are) refl
+        (subst (λ t. IsJournal t (s.journal ++ logged ∷ [])) terms_are (subst (IsJournal terms) more s.lawful)))
+  ]

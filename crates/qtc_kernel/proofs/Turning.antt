@@ -1,0 +1,176 @@
+-- What a worker's turn makes of its desk.
+use Rattle.std.proofs.Common.{◌≡◌, ℕ, ◌+◌, ◌<◌, ◌≤◌, ◌%◌, true, false, nat_lt, cond, List, [], ◌∷◌, ◌++◌, Option, None, Some, IfSome, All, map, length, inl, inr, refl, ap, sym, ◌∙◌, subst, arith, append-nil, length-append}
+use Rattle.std.specs.Prelude.{Contains, slice_index}
+use Rattle.std.proofs.lemmas.Bool.Decides.{nat_tests}
+use Rattle.std.proofs.Math.Nat.{mod-lt}
+use Rattle.std.proofs.lemmas.List.{map-append}
+use Rattle.std.proofs.lemmas.List.Elements.{All-get_or, Contains-get_or, filter-append}
+use Rattle.std.proofs.lemmas.List.FromFn.{map-range_with_len_more}
+use Rattle.qtc_claim.specs.Claims.{Addition, Worker, gave}
+use Rattle.qtc_claim.specs.Counter.{ClaimsNone, ClaimsPiece, LoadsAndAdds, PieceState, SeatState}
+use Rattle.qtc_ops.specs.ItemValue.{ItemValue}
+use Rattle.qtc_shared.specs.Journals.{calls_by}
+use Rattle.qtc_shared.proofs.Prefixes.{begins_further}
+use Rattle.qtc_kernel.specs.Workload.{first_bad, indexes_of}
+use Rattle.qtc_kernel.specs.Crews.{AreWorkedOn, Crew, DeskState, HasMetEnd, IsCrew, IsDesk, IsOwnCall, IsSeated, addition_in, given_at, opening, reporter, work_of}
+use Rattle.qtc_kernel.specs.Driving.{in_turn}
+use Rattle.qtc_kernel.specs.Turns.{Calls, ClaimsRange, IsTurn}
+use Rattle.qtc_kernel.specs.Working.{HasLooked, IsAtWork, IsReported, IsWorked, range_in}
+use Rattle.qtc_kernel.specs.declared.turn.Turn.{Turn}
+use Rattle.qtc_kernel.specs.declared.turn.Turn.TheVariants.{Did, Exhausted, SawCanceled, Failed, Memory}
+use Rattle.qtc_kernel.proofs.AtDesks.{desk_on}
+use Rattle.qtc_kernel.proofs.Passing.{handed_on, looked_on, looked_own}
+use Rattle.qtc_kernel.proofs.Turns.{next_turn}
+
+-- ---- claims that gave a piece
+
+gave_one : (n : ℕ) (claim : Addition) → claim.begin < n → gave n (claim ∷ []) ≡ claim ∷ []
+gave_one n claim below = let is : nat_lt claim.begin n ≡ true = grind (arith, nat_tests) in rw is refl
+
+gave_not : (n : ℕ) (claim : Addition) → n ≤ claim.begin → gave n (claim ∷ []) ≡ []
+gave_not n claim past = let is : nat_lt claim.begin n ≡ false = grind (arith, nat_tests) in rw is refl
+
+pub gave_more : (n : ℕ) (claims : List Addition) (claim : Addition) → claim.begin < n → gave n (claims ++ claim ∷ []) ≡ gave n claims ++ claim ∷ []
+gave_more n claims claim below =
+    filter-append (λ (it : Addition). nat_lt it.begin n) claims (claim ∷ []) ∙ ap (λ more. gave n claims ++ more) (gave_one n claim below)
+
+pub gave_same : (n : ℕ) (claims : List Addition) (claim : Addition) → n ≤ claim.begin → gave n (claims ++ claim ∷ []) ≡ gave n claims
+gave_same n claims claim past =
+    filter-append (λ (it : Addition). nat_lt it.begin n) claims (claim ∷ []) ∙ ap (λ more. gave n claims ++ more) (gave_not n claim past) ∙ append-nil (gave n claims)
+
+-- ---- sizes in turn
+
+turn_less : (turn count len : ℕ) → 1 ≤ len → turn ≡ count % len → turn < len
+turn_less turn count len some is = let less = mod-lt count some in omega arith
+
+more_sizes : (sizes : List ℕ) (given : List Addition) (claim : Addition) → map (λ (it : Addition). it.size) given ≡ in_turn sizes (length given) → claim.size ≡ slice_index sizes (length given % length sizes)
+    → map (λ (it : Addition). it.size) (given ++ claim ∷ []) ≡ in_turn sizes (length (given ++ claim ∷ []))
+more_sizes sizes given claim are is =
+    let count = length given in
+    map-append (λ (it : Addition). it.size) given (claim ∷ [])
+    ∙ ap (λ xs. xs ++ claim.size ∷ []) are
+    ∙ ap (λ size. in_turn sizes count ++ size ∷ []) is
+    ∙ sym (map-range_with_len_more (λ turn. slice_index sizes (turn % length sizes)) 0 count count (omega arith))
+    ∙ ap (in_turn sizes) (sym (length-append given (claim ∷ [])))
+
+module _ {F : Type 0} (value : F → List ℕ → ItemValue) (called : F → List ℕ) (crew : Crew F) (fits : IsCrew value crew) where
+  pub turn_within : (desk : DeskState F) → IsSeated value crew desk → desk.turn < length crew.sizes
+  turn_within desk seated = turn_less desk.turn (length (given_at crew.counter.n desk)) (length crew.sizes) fits.sizes.some seated.turn
+
+  pub size_least : (turn : ℕ) → turn < length crew.sizes → 1 ≤ slice_index crew.sizes turn
+  size_least turn within = All-get_or (λ size. 1 ≤ size) crew.sizes turn 0 within fits.sizes.least
+
+  pub size_most : (turn : ℕ) → turn < length crew.sizes → slice_index crew.sizes turn ≤ 65536
+  size_most turn within = All-get_or (λ size. size ≤ 65536) crew.sizes turn 0 within fits.sizes.most
+
+  module _ (old : DeskState F) (desk : IsDesk value called crew old) (mid : DeskState F) (looked : HasLooked old.pass mid.pass) (of : mid.seat.of ≡ crew.counter)
+      (function : mid.function ≡ old.function) (given_up : mid.given_up ≡ old.given_up) (lacks : mid.lacks ≡ old.lacks) where
+    own : All (λ logged. IsOwnCall (work_of value crew) mid.lacks logged.entry.call logged.item) (calls_by mid.pass.number mid.pass.known)
+    own =
+        subst (λ b. All (λ logged. IsOwnCall (work_of value crew) b logged.entry.call logged.item) (calls_by mid.pass.number mid.pass.known)) (sym lacks)
+        (subst (All (λ logged. IsOwnCall (work_of value crew) old.lacks logged.entry.call logged.item)) (sym (looked_own old.pass mid.pass looked)) desk.seated.own)
+
+    -- a claim that gave no piece
+    pub found_nothing : (size : ℕ) → ClaimsNone crew.counter.n size old.seat.worker mid.seat.worker → mid.turn ≡ old.turn → IsDesk value called crew mid
+    found_nothing size none turn =
+        desk_on value called crew old mid desk
+        (record { of = of ∙ sym desk.seated.counter; number = number; given = given; on = looked_on old.pass mid.pass looked; same_value = ap value function; turn = turn })
+        (looked_own old.pass mid.pass looked) lacks given_up (ap called function)
+      where
+        number : mid.seat.worker.number ≡ old.seat.worker.number
+        number = elim none [
+          | inl loaded ↦ ap (λ (w : Worker). w.number) loaded.1
+          | inr added ↦ ap (λ (w : Worker). w.number) added.2.grown
+        ]
+
+        given : given_at crew.counter.n mid ≡ given_at crew.counter.n old
+        given = elim none [
+          | inl loaded ↦ ap (λ (w : Worker). gave crew.counter.n w.claims) loaded.1
+          | inr added ↦ ap (λ (w : Worker). gave crew.counter.n w.claims) added.2.grown ∙ gave_same crew.counter.n old.seat.worker.claims added.0 added.1
+        ]
+
+    module _ (piece : PieceState) (claim : ClaimsPiece crew.counter (slice_index crew.sizes old.turn) old.seat.worker mid.seat.worker piece) (none_met : HasMetEnd old.pass → ⊥)
+        (turn : mid.turn ≡ cond (nat_lt (old.turn + 1) (length crew.sizes)) (old.turn + 1) 0) where
+      given_more : given_at crew.counter.n mid ≡ given_at crew.counter.n old ++ piece.addition ∷ []
+      given_more = ap (λ (w : Worker). gave crew.counter.n w.claims) claim.adds.grown ∙ gave_more crew.counter.n old.seat.worker.claims piece.addition claim.below
+
+      none_kept : old.given_up ≡ None
+      none_kept = by old.given_up desk.given_up
+        where
+          by : (o : Option PieceState) → IfSome o (λ it. (it.of ≡ crew.counter) × HasMetEnd old.pass) → o ≡ None
+          by None h = refl
+          by (Some it) h = absurd (none_met h.1)
+
+      size_is : piece.addition.size ≡ slice_index crew.sizes (length (given_at crew.counter.n old) % length crew.sizes)
+      size_is = claim.adds.sized ∙ ap (slice_index crew.sizes) desk.seated.turn
+
+      within : old.turn < length crew.sizes
+      within = turn_within old desk.seated
+
+      seated : IsSeated value crew mid
+      seated =
+          let number : mid.seat.worker.number ≡ old.seat.worker.number = ap (λ (w : Worker). w.number) claim.adds.grown in
+          let on = looked_on old.pass mid.pass looked in
+          let count = length (given_at crew.counter.n old) in
+          record {
+            counter = of;
+            future = on.of ∙ desk.seated.future;
+            numbered = on.number ∙ desk.seated.numbered ∙ sym number;
+            below = subst (λ k. k < crew.counter.workers) (sym number) desk.seated.below;
+            valued = ap value function ∙ desk.seated.valued;
+            opened = begins_further opening old.pass.known mid.pass.known desk.seated.opened on.known;
+            own = own;
+            turn = turn ∙ next_turn count (length crew.sizes) old.turn within desk.seated.turn
+                ∙ ap (λ k. k % length crew.sizes) (sym (length-append (given_at crew.counter.n old) (piece.addition ∷ [])) ∙ sym (ap length given_more));
+            sizes = subst (λ (given : List Addition). map (λ it. it.size) given ≡ in_turn crew.sizes (length given)) (sym given_more) (more_sizes crew.sizes (given_at crew.counter.n old) piece.addition desk.seated.sizes size_is);
+          }
+
+      pub at_work : IsAtWork value called crew mid piece
+      at_work = record {
+        seated = seated;
+        claims = given_at crew.counter.n old;
+        last = given_more;
+        kept_none = given_up ∙ none_kept;
+        worked = subst (AreWorkedOn crew.counter.n (given_at crew.counter.n old) []) (sym (ap called function))
+            (subst (λ o. AreWorkedOn crew.counter.n (given_at crew.counter.n old) (addition_in o) (called old.function)) none_kept desk.worked);
+        handed = handed_on crew.counter.n (reporter crew) (given_at crew.counter.n old) old.pass mid.pass (looked_on old.pass mid.pass looked) desk.handed;
+        piece_is = record {
+          of = claim.of;
+          below = claim.below;
+          some = subst (λ size. 1 ≤ size) (sym claim.adds.sized) (size_least old.turn within);
+          listed = subst (Contains crew.sizes) (sym claim.adds.sized) (Contains-get_or crew.sizes old.turn 0 within);
+        };
+      }
+
+      -- what became of the piece is what the turn says
+      pub turn_told : (new : DeskState F) (told : Turn) → new.seat ≡ mid.seat → IsWorked value called crew mid new (range_in crew piece) told → IsTurn value called crew old new told
+      turn_told new told seat = by told
+        where
+          claims : (range : ℕ × ℕ) → range ≡ range_in crew piece → ClaimsRange value called crew old new range
+          claims range is = record {
+            claim = piece.addition;
+            added = subst (LoadsAndAdds (slice_index crew.sizes old.turn) old.seat.worker piece.addition) (sym (ap (λ (s : SeatState). s.worker) seat)) claim.adds;
+            below = claim.below;
+            range_is = is;
+          }
+
+          calls : (range range' : ℕ × ℕ) → range' ≡ range → Calls value called crew mid new range → Calls value called crew old new range'
+          calls range range' is made = subst (λ f. called new.function ≡ called f ++ indexes_of range') function (subst (Calls value called crew mid new) (sym is) made)
+
+          by : (told : Turn) → IsWorked value called crew mid new (range_in crew piece) told → IsTurn value called crew old new told
+          by (Did range) worked = record {
+            claims = claims (range.begin, range.end) worked.0;
+            calls = calls (range_in crew piece) (range.begin, range.end) worked.0 worked.1;
+            good = ap (first_bad (work_of value crew)) worked.0 ∙ worked.2;
+            reported = subst (IsReported (reporter crew) new.pass.known) (sym worked.0) worked.3;
+          }
+          by Exhausted worked = absurd worked
+          by SawCanceled worked = record { met = worked.1; when = inr (range_in crew piece, claims (range_in crew piece) refl, calls (range_in crew piece) (range_in crew piece) refl worked.0) }
+          by (Failed index) worked = record {
+            range = range_in crew piece;
+            claims = claims (range_in crew piece) refl;
+            first = worked.1;
+            calls = calls ((range_in crew piece).0, index + 1) ((range_in crew piece).0, index + 1) refl worked.0;
+            met = worked.2;
+          }
+          by Memory worked = worked

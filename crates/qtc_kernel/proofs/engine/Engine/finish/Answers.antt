@@ -1,0 +1,45 @@
+use Rattle.std.proofs.Common.{◌≡◌, ◌∷◌, ℕ, List, IfSome, false, length, sym, subst, arith}
+use Rattle.std.proofs.lemmas.List.Elements.{All-pop}
+use Rattle.qtc_shared.specs.Passes.{PassState}
+use Rattle.qtc_kernel.specs.Crews.{DeskState, IsCrew, IsDesk, work_of}
+use Rattle.qtc_kernel.specs.WorkedOut.{IsWorkedOut}
+use Rattle.qtc_kernel.proofs.Boards.{ok_from}
+use Rattle.qtc_kernel.proofs.Opening.{popped_length}
+use Rattle.qtc_kernel.proofs.Settling.{worked_out}
+use Rattle.qtc_kernel.proofs.engine.Engine.finish.Goals as goal
+
+pub unwrap-first-requires : goal.unwrap-first-requires
+unwrap-first-requires g c =
+    let fits = subst (IsCrew g.F.ItemFn.value) c.self.view_is c.self.invariant.crew in
+    c.pop.ensures.variant.1 (omega (arith, c.requires.desks.count, fits.limits.one))
+
+pub work_off-requires-clause-first : goal.work_off-requires-clause-first
+work_off-requires-clause-first g c κs within =
+    let P = IsDesk g.F.ItemFn.value g.F.ItemFn.called c.args.self.now in
+    subst (λ o. IfSome o P) c.unwrap-first.ensures (All-pop P c.args.desks.items c.pop.new.self.items c.pop.result c.pop.ensures.items c.requires.desks.each).1
+
+pub work_off-requires-clause-out : goal.work_off-requires-clause-out
+work_off-requires-clause-out g c κs within =
+    let P : DeskState g.row.F.Denot → Type 0 = λ desk. desk.is_in ≡ false in
+    subst (λ o. IfSome o P) c.unwrap-first.ensures (All-pop P c.args.desks.items c.pop.new.self.items c.pop.result c.pop.ensures.items c.requires.out).1
+
+pub work_off-requires-clause-others : goal.work_off-requires-clause-others
+work_off-requires-clause-others g c κs within =
+    (All-pop (IsDesk g.F.ItemFn.value g.F.ItemFn.called c.args.self.now) c.args.desks.items c.pop.new.self.items c.pop.result c.pop.ensures.items c.requires.desks.each).0
+
+pub returns-clause-worked : goal.returns-clause-worked
+returns-clause-worked g c =
+    let value = g.F.ItemFn.value in
+    let called = g.F.ItemFn.called in
+    let crew = c.args.self.now in
+    let fits = subst (IsCrew value) c.self.view_is c.self.invariant.crew in
+    let first = c.work_off.new.first in
+    let others = c.work_off.new.others.items in
+    let calls = c.in_ok-calls.field-0 in
+    let long = popped_length c.args.desks.items c.pop.new.self.items c.pop.result c.unwrap-first.result c.pop.ensures.items c.unwrap-first.ensures in
+    let count : length (first ∷ others) ≡ crew.counter.workers = omega (arith, long, c.work_off.ensures.count, c.requires.desks.count) in
+    subst (λ (p : PassState (List ℕ)). IsWorkedOut (work_of value crew) crew.sizes crew.future.terms p.known calls) (sym c.pass.view_is)
+    (worked_out value called crew fits first others c.settle-pass.result.known c.settle-pass.ensures.settled count
+    c.work_off.ensures.first c.work_off.ensures.others c.work_off.ensures.met c.work_off.ensures.over
+    (c.none_lacks-had_memory.ensures.first c.if-not-had_memory.false) (c.none_lacks-had_memory.ensures.others c.if-not-had_memory.false)
+    calls (ok_from _ c.calls_of-calls.result calls c.in_ok-calls.was c.calls_of-calls.ensures))

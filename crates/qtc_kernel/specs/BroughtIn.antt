@@ -1,0 +1,47 @@
+-- What is known of an engine once all of its desks are brought in. (Own.)
+use Rattle.std.specs.Prelude.{◌≡◌, ◌+◌, ◌<◌, ◌≤◌, ℕ, false, List, [], ◌∷◌, ◌++◌, All, map}
+use Rattle.qtc_base.specs.Ranges.{times_covered}
+use Rattle.qtc_claim.specs.Claims.{Addition, claims_of, clipped, gave}
+use Rattle.qtc_claim.specs.Counter.{HasAll, IsGathered, KnowsClaims, TallyState}
+use Rattle.qtc_events.specs.declared.calls.Call.TheVariants.{Finish}
+use Rattle.qtc_future.specs.Future.{Logged}
+use Rattle.qtc_shared.specs.Journals.{BeginsWith, IsJournal, calls_by, flags_at}
+use Rattle.qtc_shared.specs.Parts.{Terms}
+use Rattle.qtc_kernel.specs.Crews.{AreReported, IsOfPiece, IsOwnCall, opening}
+use Rattle.qtc_kernel.specs.Gathering.{IsClaimed}
+use Rattle.qtc_kernel.specs.Runs.{times_called}
+use Rattle.qtc_kernel.specs.WorkedOut.{IsWorkedOut}
+use Rattle.qtc_kernel.specs.Workload.{Workload, size_of}
+
+-- what the desks and the board keep, put together: of the journal up to the finish, the tally, and all calls
+pub record AreBroughtIn (work : Workload) (sizes : List ℕ) (terms : Terms) (journal : List (Logged (List ℕ)))
+    (tally : TallyState) (calls : List ℕ) : Type 0 where
+  pub indexes : tally.of.n ≡ size_of work
+  pub makers : terms.makers ≡ tally.of.workers + 1
+  pub opened : BeginsWith journal opening
+  -- whose calls they are: those of the desks, and reports of gathered pieces
+  pub pieces : List Addition
+  pub own : (number : ℕ) → number < tally.of.workers
+      → All (λ logged. IsOwnCall work false logged.entry.call logged.item) (calls_by number journal)
+  pub reports : All (IsOfPiece work tally.of.n sizes pieces) (calls_by tally.of.workers journal)
+  -- what is gathered: these pieces, and those that were given up
+  pub gathered : IsGathered tally.of tally
+  pub knows : KnowsClaims tally
+  pub all : HasAll tally
+  pub given_up : List Addition
+  pub parts : tally.pieces ≡ pieces ++ given_up
+  -- what was called: what was claimed, but for what was given up
+  pub most : (index : ℕ) → times_called calls index
+      ≤ times_covered (map (clipped tally.of.n) (claims_of tally.workers)) index
+  pub least : (index : ℕ) → times_covered (map (clipped tally.of.n) (gave tally.of.n (claims_of tally.workers))) index
+      ≤ times_called calls index + times_covered (map (clipped tally.of.n) given_up) index
+  -- where nothing was canceled, each claim was reported, and one of the workers saw the end
+  pub reported : (flags_at journal).canceled ≡ false
+      → AreReported tally.of.n tally.of.workers (gave tally.of.n (claims_of tally.workers)) journal
+  pub claimed : (flags_at journal).canceled ≡ false → IsClaimed tally
+
+abbrev pub DesksAreWorkedOut : Type 0
+DesksAreWorkedOut = (work : Workload) (sizes : List ℕ) (terms : Terms) (journal : List (Logged (List ℕ)))
+    (tally : TallyState) (calls : List ℕ) (finish : Logged (List ℕ)) →
+    AreBroughtIn work sizes terms journal tally calls → finish.entry.call ≡ Finish →
+    IsJournal terms (journal ++ finish ∷ []) → IsWorkedOut work sizes terms (journal ++ finish ∷ []) calls

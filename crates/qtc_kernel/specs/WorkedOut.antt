@@ -1,0 +1,48 @@
+-- What an engine with workers has done once all of them are out. (Own.)
+use Rattle.std.specs.Prelude.{◌≡◌, ◌<◌, ◌≤◌, ℕ, false, List, [], ◌∷◌, ◌++◌, All, Some, map}
+use Rattle.qtc_base.specs.Ranges.{Tiles, times_covered}
+use Rattle.qtc_events.specs.declared.calls.Call.{Call}
+use Rattle.qtc_events.specs.declared.calls.Call.TheVariants.{Start, Cancel, Finish}
+use Rattle.qtc_store.specs.Stored.{IsFirstResults}
+use Rattle.qtc_future.specs.Future.{Future, Logged, failure_of, flags_of, reports_of, results_of}
+use Rattle.qtc_future.specs.declared.replies.Failure.{Failure}
+use Rattle.qtc_shared.specs.Journals.{IsJournal}
+use Rattle.qtc_shared.specs.Parts.{Terms, future_at}
+use Rattle.qtc_kernel.specs.Laws.{AreCalledOnce, IsFailing}
+use Rattle.qtc_kernel.specs.Runs.{HasTexts, IsBlock, reported_ranges, times_called}
+use Rattle.qtc_kernel.specs.Workload.{Workload, bad_indexes, kept_texts, size_of}
+
+-- the journal begins with a start and ends with a finish
+pub record IsOpenedAndFinished (journal : List (Logged (List ℕ))) : Type 0 where
+  pub between : List Call
+  pub whole : map (λ logged. logged.entry.call) journal ≡ Start ∷ between ++ Finish ∷ []
+
+-- each item was worked on, and the results are the sequential answer
+pub record IsWhole (work : Workload) (future : Future (List ℕ)) (calls : List ℕ) : Type 0 where
+  pub good : bad_indexes work ≡ []
+  pub called : (index : ℕ) → index < size_of work → times_called calls index ≡ 1
+  pub tiled : Tiles (reported_ranges future) (size_of work)
+  pub results : IsFirstResults (results_of future) (kept_texts work)
+
+-- a cancel is of a pass that is none of the engine's own
+pub record IsOfOthers (makers : ℕ) (logged : Logged (List ℕ)) : Type 0 where
+  pub others : logged.entry.call ≡ Cancel → makers ≤ logged.entry.caller
+
+-- what is true of the future and of all calls of the functions
+pub record IsWorkedOut (work : Workload) (sizes : List ℕ) (terms : Terms) (journal : List (Logged (List ℕ)))
+    (calls : List ℕ) : Type 0 where
+  pub lawful : IsJournal terms journal
+  pub opened : IsOpenedAndFinished journal
+  pub once : AreCalledOnce work calls
+  -- what was reported
+  pub texts : All (HasTexts work) (reports_of journal)
+  pub apart : (index : ℕ) → times_covered (reported_ranges (future_at terms journal)) index ≤ 1
+  pub within : (index : ℕ) → size_of work ≤ index
+      → times_covered (reported_ranges (future_at terms journal)) index ≡ 0
+  pub blocks : All (IsBlock (size_of work) sizes) (reported_ranges (future_at terms journal))
+  pub covered : (index : ℕ) → times_covered (reported_ranges (future_at terms journal)) index
+      ≤ times_called calls index
+  -- how it ended
+  pub failing : (failure : Failure) → failure_of (future_at terms journal) ≡ Some failure → IsFailing work failure
+  pub canceled : All (IsOfOthers terms.makers) journal
+  pub whole : (flags_of (future_at terms journal)).canceled ≡ false → IsWhole work (future_at terms journal) calls

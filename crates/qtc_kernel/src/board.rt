@@ -1,0 +1,69 @@
+//! What the workers of an engine share under a lock.
+ghost use Rattle.std.specs.Prelude.{◌≡◌, true, IfOk};
+ghost use Rattle.std.specs.Borrow.{ftrue};
+ghost use Rattle.qtc_kernel.specs.Crews.{Crew, IsBoard, crew_with};
+
+use qtc_base::{Bytes, Items, List, NoMemory};
+use qtc_claim::{Counter, Tally};
+use qtc_lock::{KeyLock, Keyed, Names};
+use qtc_ops::ItemFn;
+use qtc_shared::{Pass, SharedFuture};
+use std::alloc::Global;
+use std::marker::{Brand, Model, PhantomData};
+
+/// The tally of the pieces, and the pass that reports them, each in the hold of the lock in which its piece is gathered.
+#[derive(Drop)]
+pub(crate) struct Board<F> {
+    pub(crate) tally: Tally,
+    pub(crate) pass: Pass<Bytes>,
+    pub(crate) marker: PhantomData<F>,
+}
+
+/// Which engine a board is of. No value of it is made.
+pub(crate) struct Place<F> {
+    marker: PhantomData<F>,
+    pub ghost crew: { Crew F },
+}
+
+impl<F> Model for Place<F> {
+    ghost also_owns = { λ _. ftrue };
+}
+
+impl<F> Names<Place<F>> for Brand {
+    ghost use Rattle.std.specs.Prelude.{false};
+    ghost use Rattle.qtc_kernel.specs.Crews.{no_crew};
+
+    ghost key = { record { marker = record {}; crew = no_crew } };
+
+    ghost named = { false };
+}
+
+impl<F: ItemFn> Keyed for Board<F> {
+    ghost use Rattle.qtc_kernel.specs.Crews.{IsBoard};
+
+    type Key = Place<F>;
+
+    ghost fits = { λ place board. IsBoard F.value place.crew board.tally board.pass };
+}
+
+/// A lock over the board of an engine of these parts. Err is want of memory.
+pub(crate) fn placed<F: ItemFn, J: Names<Place<F>>>(
+    alloc: Global,
+    board: Board<F>,
+    counter: &Counter,
+    future: &SharedFuture<Bytes>,
+    items: &Items,
+    functions: &Vec<F>,
+    sizes: &List<u32>,
+) -> Result<KeyLock<Board<F>>, NoMemory>
+    requires named { J.named ≡ true }
+    requires place { J.key.crew ≡ crew_with counter.now future.now items.now functions.now.items sizes.now }
+    requires fits { IsBoard F.value J.key.crew board.tally board.pass }
+    ensures { IfOk result (λ lock. lock.key.crew
+        ≡ crew_with counter.now future.now items.now functions.now.items sizes.now) }
+{
+    match KeyLock::new::<Brand>(alloc, board) {
+        Ok(lock) => Ok(lock),
+        Err(_) => Err(NoMemory),
+    }
+}

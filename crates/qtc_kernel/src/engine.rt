@@ -1,0 +1,155 @@
+//! An engine that many workers drive.
+ghost use Rattle.std.specs.Prelude.{◌≡◌, ◌<◌, true, false, IfOk, IsTrue};
+ghost use Rattle.qtc_shared.specs.Passes.{Sees};
+ghost use Rattle.qtc_kernel.specs.Driving.{is_filter};
+ghost use Rattle.qtc_kernel.specs.Crews.{IsDesk, IsEngineOf, IsPlanned, IsSameButLooks, plan_terms};
+
+use crate::board::{Board, placed};
+use crate::desk::desks_of;
+use crate::{Desk, Kind, Plan};
+use qtc_base::{Bytes, Items, List, NoMemory};
+use qtc_claim::Counter;
+use qtc_future::FutureCore;
+use qtc_lock::KeyLock;
+use qtc_ops::ItemFn;
+use qtc_outside::Gate;
+use qtc_shared::{Pass, SharedFuture};
+use std::alloc::Global;
+use std::marker::{Brand, Model, PhantomData};
+use std::sync::atomic::AtomicU32;
+use std::sync::atomic::Ordering::SeqCst;
+
+/// An engine that many workers drive, each from a desk of its own; they share it by reference. (After Qt's ThreadEngine
+/// and IterateKernel.)
+///
+/// Contracts see its counter, its future, the items, the functions of its workers as they began, and the sizes of its
+/// blocks (`Crew`).
+#[derive(Drop)]
+pub struct Engine<'a, F: ItemFn, G: Gate> {
+    pub(crate) alloc: Global,
+    pub(crate) kind: Kind,
+    pub(crate) items: &'a Items,
+    pub(crate) job: u32,
+    pub(crate) gate: &'a G,
+    pub(crate) workers: u32,
+    pub(crate) sizes: List<u32>,
+    pub(crate) counter: Counter,
+    pub(crate) future: SharedFuture<Bytes>,
+    pub(crate) board: KeyLock<Board<F>>,
+    // How many workers are in. It decides nothing but `may_start`.
+    pub(crate) crowd: AtomicU32,
+}
+
+impl<'a, F: ItemFn, G: Gate> Model for Engine<'a, F, G> {
+    ghost use Rattle.qtc_kernel.specs.Crews.{Crew};
+
+    ghost Value = { Crew F };
+
+    ghost use Rattle.qtc_kernel.specs.Desks.{IsEngine};
+
+    ghost view = { λ a. a.board.key.crew };
+
+    ghost invariant = { IsEngine F.value };
+}
+
+// Whether the results are a list of what is kept.
+fn is_filtered(kind: Kind) -> bool
+    ensures { result ≡ is_filter kind }
+{
+    match kind {
+        Kind::Mapped => false,
+        Kind::Filtered => true,
+    }
+}
+
+impl<'a, F: ItemFn + Drop, G: Gate> Engine<'a, F, G> {
+    /// An engine, a desk for each worker, in order of their numbers and all out, and a pass for the caller.
+    ///
+    /// The future is started. The desks have its passes from 0 on, each with a function of its own; the next reports
+    /// for all of them, and the caller's is the one after. Err is want of memory.
+    pub fn new(
+        alloc: Global,
+        plan: Plan<'a>,
+        functions: Vec<F>,
+        gate: &'a G,
+    ) -> Result<(Engine<'a, F, G>, Vec<Desk<F>>, Pass<Bytes>), NoMemory>
+        requires { IsPlanned F.value F.called plan.kind plan.items.now plan.workers plan.blocks functions.items }
+        ensures { let plan = plan.entry in
+            let terms = plan_terms plan.kind plan.cancel_after plan.suspend_after plan.workers in
+            IfOk result (λ made. IsEngineOf F.value F.called plan.items.now terms plan.blocks functions.items
+            made.0 made.1.items made.2) }
+    {
+        let Plan {
+            kind,
+            items,
+            job,
+            workers,
+            blocks,
+            cancel_after,
+            suspend_after,
+        } = plan;
+        let mut core = FutureCore::new(alloc, is_filtered(kind), cancel_after, suspend_after)?;
+        core.start(0);
+        let (future, mut passes) = SharedFuture::from_core(alloc, core, workers + 1, workers + 2)?;
+        let caller = passes.pop().unwrap();
+        let pass = passes.pop().unwrap();
+        let (counter, seats, tally) = Counter::new(alloc, items.len(), workers)?;
+        let board = Board {
+            tally,
+            pass,
+            marker: PhantomData,
+        };
+        let board = placed::<F, Brand>(
+            alloc, board, &counter, &future, items, &functions, &blocks,
+        )?;
+        let desks = desks_of(alloc, seats, passes, functions)?;
+        let engine = Engine {
+            alloc,
+            kind,
+            items,
+            job,
+            gate,
+            workers,
+            sizes: blocks,
+            counter,
+            future,
+            board,
+            crowd: AtomicU32::new(0),
+        };
+        Ok((engine, desks, caller))
+    }
+}
+
+impl<'a, F: ItemFn, G: Gate> Engine<'a, F, G> {
+    /// The future, through which a caller watches, suspends and cancels, with passes of its own.
+    pub fn future(&self) -> &SharedFuture<Bytes>
+        ensures { result.now ≡ self.now.future }
+    {
+        &self.future
+    }
+
+    /// Counts the worker in.
+    pub fn enter(&self, desk: &mut Desk<F>)
+        requires desk { IsDesk F.value F.called self.now desk.old }
+        requires out { desk.old.is_in ≡ false }
+        ensures desk { IsDesk F.value F.called self.now desk.new }
+        ensures only { desk.new ≡ record desk.old { is_in = true } }
+    {
+        desk.is_in = true;
+        self.crowd.fetch_add(1, SeqCst);
+    }
+
+    /// Whether a further worker would find something to do: an index is left, Canceled doesn't stand, and fewer than all
+    /// workers are in. How many are in, no contract says.
+    pub fn may_start(&self, desk: &mut Desk<F>) -> bool
+        requires desk { IsDesk F.value F.called self.now desk.old }
+        ensures desk { IsDesk F.value F.called self.now desk.new }
+        ensures only { IsSameButLooks desk.old desk.new }
+        ensures left { IsTrue result → desk.new.seat.worker.seen < self.now.counter.n }
+        ensures going { IsTrue result → Sees desk.old.pass desk.new.pass (λ flags. flags.canceled ≡ false) }
+    {
+        let is_open = self.counter.is_open(&mut desk.seat);
+        let is_canceled = self.future.is_canceled(&mut desk.pass);
+        is_open && !is_canceled && self.crowd.load(SeqCst) < self.workers
+    }
+}

@@ -1,0 +1,83 @@
+//! How the values of a piece come to the future.
+ghost use Rattle.std.specs.Prelude.{◌≡◌, None, IfErr, IfOk};
+ghost use Rattle.qtc_future.specs.Steps.{told_by};
+ghost use Rattle.qtc_shared.specs.Passes.{IsHold, Stays};
+ghost use Rattle.qtc_kernel.specs.Crews.{IsBoard, reporter, work_of};
+ghost use Rattle.qtc_kernel.specs.Working.{IsHandedIn, IsPieceOf, is_drop, range_in};
+ghost use Rattle.qtc_kernel.specs.Workload.{first_bad, texts_in};
+
+use crate::Engine;
+use crate::board::Board;
+use qtc_base::{Bytes, List, NoMemory};
+use qtc_claim::Piece;
+use qtc_future::Reply;
+use qtc_ops::ItemFn;
+use qtc_outside::Gate;
+use qtc_shared::Pass;
+use std::sync::Wait;
+
+// Whether the reply says that an end stands.
+fn is_dropped(reply: Reply) -> bool
+    ensures { result ≡ is_drop (told_by reply) }
+{
+    match reply {
+        Reply::Dropped(_) => true,
+        _ => false,
+    }
+}
+
+impl<'a, F: ItemFn, G: Gate> Engine<'a, F, G> {
+    /// Reports the values of a piece and gathers it, in one hold of the board, in which the pass meets the one that
+    /// reports. False says that an end stands. Err is want of memory, and hands the piece back.
+    pub(crate) fn hand_in<R: Wait>(
+        &self,
+        rt: &R,
+        pass: &mut Pass<Bytes>,
+        piece: Piece,
+        values: List<Bytes>,
+    ) -> Result<bool, Piece>
+        requires of { pass.old.of ≡ self.now.future }
+        requires piece { IsPieceOf self.now piece }
+        requires values { values ≡ texts_in (work_of F.value self.now) (range_in self.now piece) }
+        requires good { first_bad (work_of F.value self.now) (range_in self.now piece) ≡ None }
+        ensures pass { IsHold pass.old pass.new Stays }
+        ensures ok { IfOk result (IsHandedIn (reporter self.now) pass.new.known (range_in self.now piece)) }
+        ensures back { IfErr result (λ back. back ≡ piece) }
+    {
+        let (mut board, hold) = self.board.take(rt);
+        let told = self.report(rt, &mut board, piece, values);
+        self.future.meet(rt, pass, &mut board.pass);
+        self.board.put(board, hold);
+        told
+    }
+
+    // Reports the values of a piece, and gathers it.
+    fn report<R: Wait>(
+        &self,
+        rt: &R,
+        board: &mut Board<F>,
+        piece: Piece,
+        values: List<Bytes>,
+    ) -> Result<bool, Piece>
+        requires board { IsBoard F.value self.now board.old.tally board.old.pass }
+        requires piece { IsPieceOf self.now piece }
+        requires values { values ≡ texts_in (work_of F.value self.now) (range_in self.now piece) }
+        requires good { first_bad (work_of F.value self.now) (range_in self.now piece) ≡ None }
+        ensures board { IsBoard F.value self.now board.new.tally board.new.pass }
+        ensures ok { IfOk result (IsHandedIn (reporter self.now) board.new.pass.known (range_in self.now piece)) }
+        ensures back { IfErr result (λ back. back ≡ piece) }
+    {
+        let range = piece.range();
+        let total = range.end - range.begin;
+        match self
+            .future
+            .report(rt, &mut board.pass, range.begin, values, total)
+        {
+            Ok(reply) => {
+                board.tally.gather(&self.counter, piece);
+                Ok(!is_dropped(reply))
+            }
+            Err(NoMemory) => Err(piece),
+        }
+    }
+}

@@ -1,0 +1,162 @@
+//! One turn of a worker.
+ghost use Rattle.std.specs.Prelude.{◌≡◌, ◌⊎◌, true, false, None, Some, IsTrue};
+ghost use Rattle.qtc_events.specs.Flags.{flags_in};
+ghost use Rattle.qtc_kernel.specs.Crews.{HasMetEnd, IsDesk, shows_end, work_of};
+ghost use Rattle.qtc_kernel.specs.Laws.{IsFailing};
+ghost use Rattle.qtc_kernel.specs.Turns.{IsTurn, goes_on, lacks_after};
+ghost use Rattle.qtc_kernel.specs.Working.{HasFailed, HasGivenUp, HasLooked, IsAtWork, IsGivingUp, IsWorked, StaysAtWork, range_in};
+ghost use Rattle.qtc_kernel.specs.Workload.{item_at};
+
+use crate::blocks::{Block, block_values};
+use crate::one_worker::next_turn;
+use crate::{Desk, Engine, Turn};
+use qtc_base::{Bytes, NoMemory};
+use qtc_claim::Piece;
+use qtc_events::Flags;
+use qtc_ops::ItemFn;
+use qtc_outside::Gate;
+use qtc_shared::Pass;
+use std::sync::Wait;
+use std::sync::atomic::Ordering::SeqCst;
+
+// Whether Canceled or Finished stands.
+fn ended(flags: Flags) -> bool
+    ensures { result ≡ shows_end (flags_in flags.bits) }
+{
+    flags.is_canceled() || flags.is_finished()
+}
+
+// Whether a suspension stands, and no end.
+fn is_to_wait(flags: Flags) -> bool {
+    (flags.is_suspending() || flags.is_suspended()) && !ended(flags)
+}
+
+fn is_did(turn: Turn) -> bool
+    ensures { result ≡ goes_on turn }
+{
+    match turn {
+        Turn::Did(_) => true,
+        _ => false,
+    }
+}
+
+impl<'a, F: ItemFn, G: Gate> Engine<'a, F, G> {
+    /// One turn of a worker that is in: it looks whether an end stands, waits where the future is suspended, claims a block
+    /// of the size whose turn it is, calls the function on each index of it, ascending, entering the gate with the
+    /// job and the index just before each call, and reports what was kept. No contract sees the gate.
+    ///
+    /// After every answer but `Did` the worker is out. For want of memory it cancels the future, and for nothing else.
+    pub fn step<R: Wait>(&self, rt: &R, desk: &mut Desk<F>) -> Turn
+        requires desk { IsDesk F.value F.called self.now desk.old }
+        requires is_in { desk.old.is_in ≡ true }
+        ensures desk { IsDesk F.value F.called self.now desk.new }
+        ensures number { desk.new.pass.number ≡ desk.old.pass.number }
+        ensures turn { IsTurn F.value F.called self.now desk.old desk.new result }
+        ensures out { desk.new.is_in ≡ goes_on result }
+        ensures lacks { desk.new.lacks ≡ lacks_after desk.old.lacks result }
+    {
+        let turn = self.turn(rt, desk);
+        if !is_did(turn) {
+            self.leave(desk);
+        }
+        turn
+    }
+
+    // Counts the worker out.
+    fn leave(&self, desk: &mut Desk<F>)
+        ensures { desk.new ≡ record desk.old { is_in = false } }
+    {
+        desk.is_in = false;
+        self.crowd.fetch_sub(1, SeqCst);
+    }
+
+    // The turn, before a worker leaves.
+    fn turn<R: Wait>(&self, rt: &R, desk: &mut Desk<F>) -> Turn
+        requires desk { IsDesk F.value F.called self.now desk.old }
+        ensures desk { IsDesk F.value F.called self.now desk.new }
+        ensures number { desk.new.pass.number ≡ desk.old.pass.number }
+        ensures turn { IsTurn F.value F.called self.now desk.old desk.new result }
+        ensures is_in { desk.new.is_in ≡ desk.old.is_in }
+        ensures lacks { desk.new.lacks ≡ lacks_after desk.old.lacks result }
+    {
+        if self.meets_end(rt, &mut desk.pass) {
+            return Turn::SawCanceled;
+        }
+        let size = self.sizes.as_slice()[desk.turn];
+        let Some(piece) = self.counter.claim(&mut desk.seat, size) else {
+            return Turn::Exhausted;
+        };
+        desk.turn = next_turn(desk.turn, self.sizes.len());
+        self.work(rt, desk, piece)
+    }
+
+    // Looks whether Canceled or Finished stands, and where a suspension does, again after it.
+    fn meets_end<R: Wait>(&self, rt: &R, pass: &mut Pass<Bytes>) -> bool
+        requires { pass.old.of ≡ self.now.future }
+        ensures looked { HasLooked pass.old pass.new }
+        ensures end { IsTrue result → HasMetEnd pass.new }
+        ensures going { result ≡ false → HasMetEnd pass.old → ⊥ }
+    {
+        let flags = self.future.state(pass);
+        if !is_to_wait(flags) {
+            return ended(flags);
+        }
+        ended(self.future.wait_resume(rt, pass))
+    }
+
+    // Works on the piece in hand, and hands in what was kept.
+    fn work<R: Wait>(&self, rt: &R, desk: &mut Desk<F>, piece: Piece) -> Turn
+        requires { IsAtWork F.value F.called self.now desk.old piece }
+        ensures desk { IsDesk F.value F.called self.now desk.new }
+        ensures stays { StaysAtWork desk.old desk.new result }
+        ensures turn { IsWorked F.value F.called self.now desk.old desk.new (range_in self.now piece) result }
+    {
+        let block = piece.range();
+        match block_values(
+            self.alloc,
+            self.kind,
+            self.items,
+            self.job,
+            block,
+            &mut desk.function,
+            self.gate,
+        ) {
+            Ok(Block::Kept(values)) => match self.hand_in(rt, &mut desk.pass, piece, values) {
+                Ok(true) => Turn::Did(block),
+                Ok(false) => Turn::SawCanceled,
+                Err(piece) => self.give_up(rt, desk, piece),
+            },
+            Ok(Block::Bad(index)) => self.fail(rt, desk, piece, index),
+            Err(NoMemory) => self.give_up(rt, desk, piece),
+        }
+    }
+
+    // Fails the future with the bad item at the index. The piece stays with the desk.
+    fn fail<R: Wait>(&self, rt: &R, desk: &mut Desk<F>, piece: Piece, index: u32) -> Turn
+        requires desk { IsGivingUp F.value F.called self.now desk.old piece }
+        requires bad { let work = work_of F.value self.now in
+            IsFailing work (record { index = index; item = item_at work index }) }
+        ensures desk { IsDesk F.value F.called self.now desk.new }
+        ensures turn { HasFailed desk.old desk.new index result }
+    {
+        let bad = self.items.get(index).unwrap();
+        let Ok(item) = Bytes::from_slice(self.alloc, bad) else {
+            return self.give_up(rt, desk, piece);
+        };
+        self.future.fail(rt, &mut desk.pass, index, item);
+        desk.given_up = Some(piece);
+        Turn::Failed(index)
+    }
+
+    // Cancels the future for want of memory. The piece stays with the desk.
+    fn give_up<R: Wait>(&self, rt: &R, desk: &mut Desk<F>, piece: Piece) -> Turn
+        requires { IsGivingUp F.value F.called self.now desk.old piece }
+        ensures desk { IsDesk F.value F.called self.now desk.new }
+        ensures turn { HasGivenUp desk.old desk.new result }
+    {
+        self.future.cancel(rt, &mut desk.pass);
+        desk.given_up = Some(piece);
+        desk.lacks = true;
+        Turn::Memory
+    }
+}

@@ -1,2 +1,3 @@
 -- What a pool that threads share is known by.
 pub mod Shared
+pub mod Working

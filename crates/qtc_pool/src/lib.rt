@@ -2,6 +2,7 @@
 //! nothing to do.
 #![tactic(auto)]
 
+mod becoming;
 mod guarded;
 mod pool;
 mod serving;
@@ -9,5 +10,6 @@ mod serving;
 mod tests;
 mod work;
 
+pub use becoming::Becomes;
 pub use pool::Pool;
 pub use work::Work;

@@ -1,8 +1,9 @@
 //! Workers, which run a pool's tasks at their desks.
 ghost use Rattle.std.specs.Prelude.{◌<◌, length};
 ghost use Rattle.qtc_pool.specs.Shared.{EachBecomes};
+ghost use Rattle.qtc_pool.specs.Working.{Keeps};
 
-use crate::{Pool, Work};
+use crate::{Becomes, Pool, Work};
 use std::sync::Wait;
 use std::thread::{Threads, for_each_mut};
 
@@ -27,21 +28,59 @@ impl<K: Send + Drop> Pool<K> {
         requires { 0 < length desks.old }
         ensures { EachBecomes K.becomes desks.old desks.new }
     {
-        let workers = desks.len();
-        for_each_mut(rt, desks, workers, &|_, desk: &mut D| self.serve(rt, desk));
-        self.serve(rt, &mut desks[0]);
+        self.run_workers_with(
+            rt,
+            desks,
+            &|pool: &Pool<K>, task: &K, desk: &mut D|
+                ensures { K.becomes desk.old desk.new }
+            {
+                task.run(rt, pool, desk);
+            },
+        );
     }
 
-    /// Runs tasks at a desk until nothing waits and nothing runs.
-    fn serve<D, R: Wait>(&self, rt: &R, desk: &mut D)
+    /// Does what `run_workers` does, where a function does the work of a task at a worker's desk.
+    pub fn run_workers_with<D: Send, R: Threads + Wait + Sync, W: Fn(&Pool<K>, &K, &mut D) + Sync>(
+        &self,
+        rt: &R,
+        desks: &mut [D],
+        work: &W,
+    )
     where
-        K: Work<D>,
+        K: Becomes<D>,
+        requires some { 0 < length desks.old }
+        requires callable { W.IsAlwaysCallable work.now }
+        requires keeps { Keeps K.becomes W.Fn work.now }
+        ensures { EachBecomes K.becomes desks.old desks.new }
+    {
+        let workers = desks.len();
+        for_each_mut(
+            rt,
+            desks,
+            workers,
+            &|_, desk: &mut D|
+                requires callable { W.IsAlwaysCallable work.now }
+                requires keeps { Keeps K.becomes W.Fn work.now }
+                ensures { K.becomes desk.old desk.new }
+            {
+                self.serve(rt, desk, work);
+            },
+        );
+        self.serve(rt, &mut desks[0], work);
+    }
+
+    /// Does tasks at a desk until nothing waits and nothing runs.
+    fn serve<D, R: Wait, W: Fn(&Pool<K>, &K, &mut D)>(&self, rt: &R, desk: &mut D, work: &W)
+    where
+        K: Becomes<D>,
+        requires callable { W.IsAlwaysCallable work.now }
+        requires keeps { Keeps K.becomes W.Fn work.now }
         ensures { K.becomes desk.old desk.new }
     {
         for _ in rt.forever() {
             match self.next(rt) {
-                Next::Task { id, work } => {
-                    work.run(rt, self, desk);
+                Next::Task { id, work: task } => {
+                    work(self, &task, desk);
                     self.done(rt, id);
                 }
                 Next::Sleep { rings } => self.sleep(rt, rings),

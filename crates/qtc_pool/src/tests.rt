@@ -1,7 +1,7 @@
 ghost use Rattle.std.specs.Prelude.{◌≡◌, ◌<◌, IfOk};
 ghost use Rattle.std.specs.Vec.{vec_len};
 
-use crate::{Pool, Work};
+use crate::{Becomes, Pool, Work};
 use qtc_pool_core::{PoolEntry, ReleaseFault, StartFault};
 use std::alloc::{AllocError, Global};
 use std::sync::Wait;
@@ -36,13 +36,19 @@ impl Job {
 }
 
 /// Notes are added and none is lost.
-impl Work<Notes> for Job {
+impl Becomes<Notes> for Job {
     ghost use Rattle.std.specs.Prelude.{◌≤◌};
     ghost use Rattle.std.specs.Vec.{vec_len};
     ghost use Rattle.std.proofs.Common.{arith};
 
     ghost becomes = { λ old new. vec_len old.ran ≤ vec_len new.ran };
 
+    ghost stays = { λ desk. Prim.omega arith };
+
+    ghost goes_on = { λ before between after first second. Prim.omega arith };
+}
+
+impl Work<Notes> for Job {
     fn run<R: Wait>(&self, rt: &R, pool: &Pool<Job>, desk: &mut Notes) {
         let id = self.id();
         let _ = desk.ran.push(id);
@@ -64,10 +70,6 @@ impl Work<Notes> for Job {
             _ => {}
         }
     }
-
-    ghost stays = { λ desk. Prim.omega arith };
-
-    ghost goes_on = { λ before between after first second. Prim.omega arith };
 }
 
 fn desks(alloc: Global, count: usize) -> Result<Vec<Notes>, AllocError>

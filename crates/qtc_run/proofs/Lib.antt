@@ -1,10 +1,12 @@
 pub mod Countable
-pub mod Driven
 pub mod Going
-pub mod KeptModes
 pub mod LineCounts
 pub mod PieceLemmas
+pub mod Planned
 pub mod ReportLemmas
+pub mod Rows
+pub mod Seating
 pub mod SequentialLemmas
 pub mod SumLemmas
 pub mod TextLemmas
+pub mod Worked

@@ -1,13 +1,17 @@
 -- The texts of reports, job by job.
-use Rattle.std.proofs.Common.{◌≡◌, ◌<◌, ◌+◌, ℕ, zero, suc, get_or, take, List, [], ◌∷◌, ◌++◌, length, ◌⊎◌, ⊎_elim, refl, ap, sym, ◌∙◌, append_assoc, append-nil, arith}
+use Rattle.std.proofs.Common.{◌≡◌, ◌<◌, ◌+◌, ℕ, zero, suc, get_or, take, List, [], ◌∷◌, ◌++◌, length, ◌⊎◌, ⊎_elim, refl, ap, sym, subst, ◌∙◌, append_assoc, append-nil, arith}
 use Rattle.std.specs.List.{flat_map, zip}
 use Rattle.qtc_job.specs.declared.jobs.Job.{Job}
+use Rattle.qtc_kernel.specs.Workload.{workload}
+use Rattle.qtc_ops.specs.Operations.{value_of}
 use Rattle.qtc_run.specs.declared.reports.JobReport.{JobReport}
 use Rattle.qtc_run.specs.Laws.{JobsAreReportedInOrder}
 use Rattle.qtc_run.specs.Pairing.{EachPair}
-use Rattle.qtc_run.specs.Reports.{IsReport}
+use Rattle.qtc_run.specs.Reports.{AreReports, IsReport}
 use Rattle.qtc_run.specs.ReportTexts.{job_text}
-use Rattle.qtc_run.specs.Sources.{work_of}
+use Rattle.qtc_run.specs.Rounds.{IsReportFor, IsSourceOf}
+use Rattle.qtc_run.specs.Sources.{Texts, items_of, work_of}
+use Rattle.qtc_run.specs.declared.rounds.Source.{Source}
 
 abbrev pub pair_text : Job × JobReport → List ℕ
 pair_text pair = job_text pair.0.name pair.1
@@ -66,3 +70,19 @@ stand-by-place texts jobs reports all = record {
   number = pairs-number (λ job report. IsReport job (work_of texts job) report) jobs reports all;
   each = λ place d e within. pairs-at (λ job report. IsReport job (work_of texts job) report) jobs reports place d e all within;
 }
+
+-- ---- jobs, what they read, and what is reported of them
+
+report-of : (texts : Texts) (job : Job) (source : Source) (report : JobReport) → IsSourceOf texts job source → IsReportFor source report → IsReport job (work_of texts job) report
+report-of texts job source report is reported =
+    let items = subst (λ (items : List (List ℕ)). IsReport source.job.now (workload items (value_of source.job.now.op)) report) is.items_are reported in
+    subst (λ (job' : Job). IsReport job' (workload (items_of texts job.input) (value_of job'.op)) report) is.job_is items
+
+pub reports-of : (texts : Texts) (jobs : List Job) (sources : List Source) (reports : List JobReport) → EachPair (IsSourceOf texts) jobs sources → EachPair IsReportFor sources reports → AreReports texts jobs reports
+reports-of texts [] [] [] are reported = tt
+reports-of texts [] [] (report ∷ reports) are reported = reported
+reports-of texts [] (source ∷ sources) reports are reported = absurd are
+reports-of texts (job ∷ jobs) [] reports are reported = absurd are
+reports-of texts (job ∷ jobs) (source ∷ sources) [] are reported = absurd reported
+reports-of texts (job ∷ jobs) (source ∷ sources) (report ∷ reports) are reported =
+    (report-of texts job source report are.0 reported.0, reports-of texts jobs sources reports are.1 reported.1)

@@ -1,5 +1,5 @@
 -- The laws of sources, sequential answers and reports. (Own.)
-use Rattle.std.specs.Prelude.{◌≡◌, ◌≢◌, ℕ, ◌+◌, ◌-◌, ◌<◌, ◌≤◌, ◌==◌, nat_lt, if◌then◌else◌, List, [], ◌∷◌, ◌++◌, All, IsTrue, None, length, slice_index_or}
+use Rattle.std.specs.Prelude.{◌≡◌, ◌≢◌, ℕ, ◌+◌, ◌-◌, ◌<◌, ◌≤◌, ◌==◌, false, nat_lt, if◌then◌else◌, List, [], ◌∷◌, ◌++◌, All, IsTrue, None, length, slice_index_or}
 use Rattle.std.specs.List.{concat, count_by}
 use Rattle.qtc_base.specs.Items.{total_bytes}
 use Rattle.qtc_base.specs.Lines.{lines}
@@ -7,12 +7,13 @@ use Rattle.qtc_ops.specs.ItemValue.{bad}
 use Rattle.qtc_future.specs.declared.replies.Outcome.{Outcome}
 use Rattle.qtc_future.specs.declared.replies.Outcome.TheVariants.{Values, Failed, Canceled}
 use Rattle.qtc_future.specs.Ends.{IsOutcome}
-use Rattle.qtc_future.specs.Future.{Future, events_of, journal_of}
-use Rattle.qtc_kernel.specs.Driving.{IsDriven, called_by, is_filter}
+use Rattle.qtc_future.specs.Future.{Future, Logged, events_of, journal_of}
+use Rattle.qtc_kernel.specs.Driving.{called_by}
 use Rattle.qtc_kernel.specs.Laws.{IsFailing}
 use Rattle.qtc_kernel.specs.Runs.{times_called}
-use Rattle.qtc_kernel.specs.Workload.{Suits, Workload, bad_indexes, item_at, kept_texts, size_of, worked_on}
-use Rattle.qtc_kernel.specs.declared.kinds.Kind.{Kind}
+use Rattle.qtc_kernel.specs.WorkedOut.{IsWorkedOut}
+use Rattle.qtc_kernel.specs.Workload.{Workload, bad_indexes, item_at, kept_texts, worked_on}
+use Rattle.qtc_shared.specs.Parts.{future_at}
 use Rattle.qtc_job.specs.declared.jobs.Job.{Job}
 use Rattle.qtc_job.specs.declared.jobs.JobFile.{JobFile}
 use Rattle.qtc_job.specs.Grammar.{Reads}
@@ -20,10 +21,11 @@ use Rattle.qtc_job.specs.Lines.{Line}
 use Rattle.qtc_run.specs.Sums.{IsCountable}
 use Rattle.qtc_run.specs.declared.reports.JobReport.{JobReport}
 use Rattle.qtc_run.specs.declared.reports.Report.{Report}
-use Rattle.qtc_run.specs.Reports.{AreReports, IsReport, is_keep}
+use Rattle.qtc_run.specs.Reports.{AreReports, IsReport, is_canceled_end}
 use Rattle.qtc_run.specs.ReportTexts.{job_text, report_text}
+use Rattle.qtc_run.specs.Rounds.{terms_of}
 use Rattle.qtc_run.specs.Runnable.{is_runnable}
-use Rattle.qtc_run.specs.Sequential.{IsSequentialReport, sequential}
+use Rattle.qtc_run.specs.Sequential.{sequential}
 use Rattle.qtc_run.specs.Sources.{Texts, pieces_of, work_of}
 
 -- ---- sources
@@ -74,7 +76,7 @@ abbrev pub file_with : ℕ → List Job → JobFile
 file_with workers jobs = record { workers = workers; jobs = jobs }
 
 abbrev pub report_with : List JobReport → Report
-report_with jobs = record { jobs = jobs }
+report_with jobs = record { jobs = jobs; pool = [] }
 
 -- a job more appends its text
 abbrev pub ReportsGoJobByJob : Type 0
@@ -102,19 +104,32 @@ pub record IsMadeOf (job : Job) (report : JobReport) (future : Future (List ℕ)
   pub order : report.order ≡ None
   pub any : report.any ≡ None
 
--- what one worker makes of a job that is run so far may be reported, and is the sequential answer
-abbrev pub DrivenJobsAreReported : Type 0
-DrivenJobsAreReported =
-    (job : Job) (work : Workload) (report : JobReport) (kind : Kind) (future : Future (List ℕ)) →
-    IsTrue (is_runnable job) → is_filter kind ≡ is_keep job.op → Suits (is_filter kind) work →
-    size_of work ≤ 8388608 → IsDriven work kind job.blocks future →
-    report.calls ≡ called_by work → IsMadeOf job report future →
-    IsReport job work report × IsSequentialReport work report
+-- what the workers of an engine make of a job that is run so far may be reported, where it was not canceled
+abbrev pub WorkedJobsAreReported : Type 0
+WorkedJobsAreReported =
+    (job : Job) (work : Workload) (report : JobReport) (workers : ℕ) (journal : List (Logged (List ℕ))) →
+    IsTrue (is_runnable job) → IsWorkedOut work job.blocks (terms_of workers job) journal report.calls →
+    IsMadeOf job report (future_at (terms_of workers job) journal) → is_canceled_end report.ended ≡ false →
+    IsReport job work report
 
 -- a job of which no item is bad ends with its kept texts, whoever worked on it
 abbrev pub GoodJobsFinish : Type 0
 GoodJobsFinish = (job : Job) (work : Workload) (report : JobReport) →
     IsReport job work report → bad_indexes work ≡ [] → report.ended ≡ Values (kept_texts work)
+
+-- the sequential answer to what a report says: just these values, or a failure, perhaps of another bad item
+abbrev pub IsFailure : Outcome (List ℕ) → Type 0
+IsFailure (Failed failure) = Unit {0}
+IsFailure _ = ⊥
+
+abbrev pub AnswersAs : Outcome (List ℕ) → Outcome (List ℕ) → Type 0
+AnswersAs (Values values) answer = answer ≡ Values values
+AnswersAs (Failed failure) answer = IsFailure answer
+AnswersAs Canceled answer = ⊥
+
+abbrev pub ReportsAreSequential : Type 0
+ReportsAreSequential = (job : Job) (work : Workload) (report : JobReport) →
+    IsReport job work report → AnswersAs report.ended (sequential work)
 
 -- every file that the grammar reads can be counted
 abbrev pub ReadFilesCanBeCounted : Type 0

@@ -5,6 +5,7 @@ pub mod LoadedInside
 pub mod Pairing
 pub mod Reports
 pub mod ReportTexts
+pub mod Rounds
 pub mod Runnable
 pub mod Sequential
 pub mod Sources

@@ -1,5 +1,5 @@
--- What a report may be: of a job, and of a run. So far jobs have no fold and are not canceled. (Own.)
-use Rattle.std.specs.Prelude.{◌≡◌, ◌<◌, ◌≤◌, ◌⊎◌, ℕ, Bool, true, false, ◌&&◌, is_none, List, [], ◌∷◌, ◌++◌, All, map, None, Some, if◌then◌else◌}
+-- What a report may be: of a job, and of a run, whoever worked on it. So far jobs have no fold and are not canceled. (Own.)
+use Rattle.std.specs.Prelude.{◌≡◌, ◌<◌, ◌≤◌, ◌⊎◌, ℕ, Bool, true, false, ◌&&◌, is_none, List, [], ◌∷◌, ◌++◌, All, map, None, Some, IsSome, if◌then◌else◌}
 use Rattle.std.specs.List.{list_any}
 use Rattle.qtc_base.specs.Ranges.{Tiles, times_covered}
 use Rattle.qtc_events.specs.declared.calls.Call.{Call}
@@ -19,6 +19,9 @@ use Rattle.qtc_kernel.specs.Runs.{HasTexts, IsBlock, reported_ranges, times_call
 use Rattle.qtc_kernel.specs.Workload.{Workload, bad_indexes, kept_texts, size_of}
 use Rattle.qtc_job.specs.declared.jobs.Job.{Job}
 use Rattle.qtc_job.specs.declared.jobs.JobFile.{JobFile}
+use Rattle.qtc_pool_core.specs.Machine.{empty}
+use Rattle.qtc_pool_core.specs.Runs.{run_of}
+use Rattle.qtc_pool_core.specs.declared.entries.PoolEntry.{PoolEntry}
 use Rattle.qtc_run.specs.Pairing.{EachPair}
 use Rattle.qtc_run.specs.ReportTexts.{report_text}
 use Rattle.qtc_run.specs.Sources.{Texts, work_of}
@@ -63,8 +66,8 @@ pub record LetsGoOn (entry : Entry) : Type 0 where
   pub call : cancels entry.call ≡ false
   pub threshold : cancels_by_threshold entry.reached ≡ false
 
--- the reported ranges lie below n and meet nowhere, each is one of the job's blocks, the function was called on its
--- indexes, and its values are what is kept of its items
+-- the reported ranges lie below n and meet nowhere, each is one of the job's blocks, the function was called on its indexes,
+-- and its values are what is kept of its items
 pub record AreReported (job : Job) (work : Workload) (calls : List ℕ) (future : Future (List ℕ)) : Type 0 where
   pub apart : (index : ℕ) → times_covered (reported_ranges future) index ≤ 1
   pub within : (index : ℕ) → size_of work ≤ index → times_covered (reported_ranges future) index ≡ 0
@@ -74,10 +77,9 @@ pub record AreReported (job : Job) (work : Workload) (calls : List ℕ) (future 
 
 -- ---- how a job ended
 
--- with the values of the sequential answer: no item is bad, no threshold was to be reached, each index was called once,
--- the reported ranges tile the items, and nothing canceled the job
-pub record HasValues (job : Job) (work : Workload) (report : JobReport) (future : Future (List ℕ))
-    (values : List (List ℕ)) : Type 0 where
+-- with the values of the sequential answer: no item is bad, no threshold was to be reached, each index was called once, the
+-- reported ranges tile the items, and nothing canceled the job
+pub record HasValues (job : Job) (work : Workload) (report : JobReport) (future : Future (List ℕ)) (values : List (List ℕ)) : Type 0 where
   pub values_are : values ≡ kept_texts work
   pub good : bad_indexes work ≡ []
   pub unreached : (job.cancel_after ≡ 0) ⊎ (size_of work < job.cancel_after)
@@ -85,7 +87,7 @@ pub record HasValues (job : Job) (work : Workload) (report : JobReport) (future 
   pub tiled : Tiles (reported_ranges future) (size_of work)
   pub going : All LetsGoOn report.journal
 
--- with a bad item; the journal has the failure, with this index and item
+-- with a bad item, which is that of the failure in the journal
 pub record HasFailure (work : Workload) (future : Future (List ℕ)) (failure : Failure) : Type 0 where
   pub failing : IsFailing work failure
   pub kept : failure_of future ≡ Some failure
@@ -98,8 +100,8 @@ EndsWith job work report future Canceled = ⊥
 
 -- ---- reports
 
--- what a job over these items may report: its journal is that of a list of effective calls on a new future, and
--- outcome, calls, journal and events fit each other
+-- what a job over these items may report: its journal is that of a list of effective calls on a new future, and outcome,
+-- calls, journal and events fit each other
 pub record IsReport (job : Job) (work : Workload) (report : JobReport) : Type 0 where
   pub logged : List (Logged (List ℕ))
   pub legal : IsLegal (future_of job logged)
@@ -117,9 +119,14 @@ pub record IsReport (job : Job) (work : Workload) (report : JobReport) : Type 0 
 abbrev pub AreReports : Texts → List Job → List JobReport → Type 0
 AreReports texts jobs reports = EachPair (λ job report. IsReport job (work_of texts job) report) jobs reports
 
--- what a run of a file over texts may print
-pub record IsOutput (file : JobFile) (texts : Texts) (report : Report) (bytes : List ℕ) : Type 0 where
+-- the entries are a run of the pool's machine, from an empty pool of so many threads
+abbrev pub IsPoolRun : ℕ → List PoolEntry → Type 0
+IsPoolRun workers entries = IsSome (run_of (empty workers) entries)
+
+-- what a run of a file over texts by so many workers may print
+pub record IsOutput (file : JobFile) (workers : ℕ) (texts : Texts) (report : Report) (bytes : List ℕ) : Type 0 where
   pub reports : AreReports texts file.jobs report.jobs
+  pub pool : IsPoolRun workers report.pool
   pub written : bytes ≡ report_text file report
 
 -- ---- how a run ended
@@ -128,6 +135,10 @@ abbrev pub is_unfinished : Outcome (List ℕ) → Bool
 is_unfinished (Values values) = false
 is_unfinished _ = true
 
--- whether a job has no values: it failed or was canceled
+abbrev pub is_canceled_end : Outcome (List ℕ) → Bool
+is_canceled_end Canceled = true
+is_canceled_end _ = false
+
+-- whether a job failed or was canceled
 abbrev pub has_failed : Report → Bool
 has_failed report = list_any (λ job. is_unfinished job.ended) report.jobs

@@ -41,8 +41,8 @@ IsSized (input.Files names) = length names ≤ 64
 IsSized (input.Pieces size name) = 1 ≤ size
 IsSized _ = Unit {0}
 
--- a file whose items can be counted in numbers of 64 bits, and taken in blocks: its jobs are few, each input is sized,
--- and so are the blocks
+-- a file whose items can be counted in numbers of 64 bits, and taken in blocks: its jobs are few, each input is sized, and
+-- the sizes of the blocks are such
 pub record IsCountable (file : JobFile) : Type 0 where
   pub few : length file.jobs ≤ 64
   pub sized : All (λ (job : Job). IsSized job.input) file.jobs

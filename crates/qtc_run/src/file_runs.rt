@@ -1,47 +1,76 @@
-ghost use Rattle.std.specs.Prelude.{◌≡◌, length, IsTrue, IfOk, OnOk, IfErr};
+ghost use Rattle.std.specs.Prelude.{◌≡◌, ◌≤◌, length, IsTrue, All, IfOk, OnOk, IfErr};
 ghost use Rattle.qtc_base.specs.Items.{PassesLimit};
 ghost use Rattle.qtc_run.specs.Loaded.{HasAll};
-ghost use Rattle.qtc_run.specs.Reports.{AreReports};
+ghost use Rattle.qtc_run.specs.Pairing.{EachPair};
+ghost use Rattle.qtc_run.specs.Reports.{AreReports, IsPoolRun};
+ghost use Rattle.qtc_run.specs.Rounds.{IsReady, IsSourceOf};
 ghost use Rattle.qtc_run.specs.Runnable.{are_runnable};
-ghost use Rattle.qtc_run.specs.Sequential.{AreSequential};
 ghost use Rattle.qtc_run.specs.Sources.{items_of_all, names_of_all};
 ghost use Rattle.qtc_run.specs.Sums.{IsCountable, RefusesRun};
 
-use crate::job_runs::run_job;
+use crate::rounds::{Source, run_round};
+use crate::sources::items_from;
 use crate::sums::check_sums;
 use crate::{Loaded, Report, RunFault};
-use qtc_base::List;
+use qtc_base::NoMemory;
 use qtc_job::JobFile;
 use qtc_outside::Gate;
 use std::alloc::Global;
+use std::sync::Wait;
+use std::thread::Threads;
 
-/// Runs the jobs of a file over loaded texts, one after the other on this thread, block by block, and enters the gate
-/// just before each call of a job's function. The items of all jobs are counted first, from the lengths of the texts:
-/// with the first job whose items take those so far past a limit the answer is `TooLarge`, and no function is called.
-pub fn run_file<G: Gate>(
+/// The jobs of a file, each with its items.
+fn sources_of<'j>(
     alloc: Global,
+    file: &'j JobFile,
+    loaded: &Loaded,
+) -> Result<Vec<Source<'j>>, NoMemory>
+    requires countable { IsCountable file.now }
+    requires runnable { IsTrue (are_runnable file.now.jobs) }
+    requires loaded { HasAll loaded.now (names_of_all file.now.jobs) }
+    requires fits { ¬ PassesLimit (items_of_all loaded.now file.now.jobs) }
+    ensures sources { IfOk result (λ sources. EachPair (IsSourceOf loaded.now) file.now.jobs sources.items) }
+    ensures ready { IfOk result (λ sources. All IsReady sources.items) }
+{
+    let jobs = file.jobs.as_slice();
+    let mut sources = Vec::new(alloc);
+    for (place, job) in jobs.iter().enumerate() {
+        sources.push(Source {
+            place: place as u32,
+            job,
+            items: items_from(alloc, &job.input, loaded)?,
+        })?;
+    }
+    Ok(sources)
+}
+
+/// Runs the jobs of a file over loaded texts by so many workers, and enters the gate just before each call of a job's
+/// function.
+///
+/// All jobs are worked on at once: each has an engine, and the workers of one pool take their tasks by the jobs'
+/// priorities. (After Qt Concurrent's engines on QThreadPool.) The items of all jobs are counted first, from the lengths
+/// of the texts: with the first job whose items take those so far past a limit the answer is `TooLarge`, and no function
+/// is called.
+pub fn run_file<G: Gate, R: Threads + Wait + Sync>(
+    alloc: Global,
+    rt: &R,
     file: &JobFile,
     loaded: &Loaded,
+    workers: u32,
     gate: &G,
 ) -> Result<Report, RunFault>
     requires countable { IsCountable file.now }
     requires runnable { IsTrue (are_runnable file.now.jobs) }
     requires loaded { HasAll loaded.now (names_of_all file.now.jobs) }
+    requires workers { (1 ≤ workers) × (workers ≤ 32) }
     ensures reports { IfOk result (λ report. AreReports loaded.now file.now.jobs report.jobs) }
-    ensures sequential { IfOk result (λ report. AreSequential loaded.now file.now.jobs report.jobs) }
+    ensures pool { IfOk result (λ report. IsPoolRun workers report.pool) }
     ensures number { IfOk result (λ report. length report.jobs ≡ length file.now.jobs) }
     ensures fits { OnOk result (¬ PassesLimit (items_of_all loaded.now file.now.jobs)) }
     ensures too_large { IfErr result (RefusesRun loaded.now file.now.jobs) }
 {
-    let jobs = file.jobs.as_slice();
-    check_sums(jobs, loaded)?;
-    let mut reports = List::new(alloc);
-    for (place, job) in jobs.iter().enumerate() {
-        let report = run_job(alloc, place as u32, job, loaded, gate)?;
-        match reports.push(report) {
-            Ok(()) => {}
-            Err(_report) => return Err(RunFault::Memory),
-        }
-    }
-    Ok(Report { jobs: reports })
+    check_sums(file.jobs.as_slice(), loaded)?;
+    let sources = sources_of(alloc, file, loaded)?;
+    let report = run_round(alloc, rt, &sources, workers, gate)?;
+    Ok(report)
 }

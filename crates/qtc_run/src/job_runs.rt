@@ -1,42 +1,29 @@
-ghost use Rattle.std.specs.Prelude.{◌≡◌, [], IsTrue, IfOk, if◌then◌else◌};
-ghost use Rattle.qtc_base.specs.Items.{PassesLimit};
-ghost use Rattle.qtc_kernel.specs.Driving.{AreSizes, is_filter};
+ghost use Rattle.std.specs.Prelude.{◌≡◌, [], IfOk, if◌then◌else◌};
+ghost use Rattle.qtc_kernel.specs.Driving.{is_filter};
 ghost use Rattle.qtc_future.specs.Future.{events_of, journal_of};
-ghost use Rattle.qtc_run.specs.Loaded.{HasAll};
-ghost use Rattle.qtc_run.specs.Reports.{IsReport, is_keep};
-ghost use Rattle.qtc_run.specs.Runnable.{is_runnable};
-ghost use Rattle.qtc_run.specs.Sequential.{IsSequentialReport};
-ghost use Rattle.qtc_run.specs.Sources.{items_of, names_of, work_of};
-ghost use Rattle.qtc_run.specs.Sums.{IsSized};
+ghost use Rattle.qtc_run.specs.Reports.{is_keep, is_canceled_end};
+ghost use Rattle.qtc_run.specs.Rounds.{HasDone, IsEngineFor, IsReady, IsReportFor};
 
-use crate::laws::driven_jobs_are_reported;
-use crate::sources::items_from;
-use crate::{JobReport, Loaded};
-use qtc_base::{Bytes, List, NoMemory, Value};
+use crate::JobReport;
+use crate::laws::worked_jobs_are_reported;
+use crate::rounds::Source;
+use qtc_base::{Bytes, List, NoMemory};
 use qtc_events::{Entry, Event};
-use qtc_future::FutureCore;
-use qtc_job::Job;
-use qtc_kernel::{Kind, run_one};
-use qtc_ops::{ItemFn, ItemOp, OpFn};
+use qtc_future::{FutureCore, Outcome};
+use qtc_kernel::{Engine, Finished, Kind};
+use qtc_ops::{ItemFn, ItemOp};
 use qtc_outside::Gate;
 use std::alloc::Global;
+use std::sync::Wait;
 
 /// What an engine makes of the items of an operation.
-fn kind_of(op: &ItemOp) -> Kind
+pub fn kind_of(op: &ItemOp) -> Kind
     ensures { is_filter result ≡ is_keep op.now }
 {
     match op {
         ItemOp::Map(_) => Kind::Mapped,
         ItemOp::Keep { .. } => Kind::Filtered,
     }
-}
-
-/// The indexes that a function was called on.
-fn calls_of<F: ItemFn>(alloc: Global, function: &F) -> Result<List<u32>, NoMemory>
-    ensures { IfOk result (λ calls. calls ≡ F.called function.now) }
-{
-    let calls = Vec::from_slice(alloc, function.calls())?;
-    Ok(List::from_vec(calls))
 }
 
 /// The journal of a future.
@@ -62,34 +49,44 @@ fn events_of(
     Ok(List::from_vec(events))
 }
 
-/// Runs the job at this place of a file, with items of its own that are gone at the end.
-pub fn run_job<G: Gate>(
-    alloc: Global,
-    place: u32,
-    job: &Job,
-    loaded: &Loaded,
-    gate: &G,
-) -> Result<JobReport, NoMemory>
-    requires named { HasAll loaded.now (names_of job.now.input) }
-    requires sized { IsSized job.now.input }
-    requires blocks { AreSizes job.now.blocks }
-    requires runnable { IsTrue (is_runnable job.now) }
-    requires fits { ¬ PassesLimit (items_of loaded.now job.now.input) }
-    ensures report { IfOk result (IsReport job.now (work_of loaded.now job.now)) }
-    ensures sequential { IfOk result (IsSequentialReport (work_of loaded.now job.now)) }
+/// Whether an outcome is that the job was canceled.
+fn is_canceled(ended: &Outcome<Bytes>) -> bool
+    ensures { result ≡ is_canceled_end ended.now }
 {
-    let items = items_from(alloc, &job.input, loaded)?;
-    let mut function = OpFn::new(alloc, job.op.copy()?);
-    let sizes = job.blocks.as_slice();
-    let kind = kind_of(&job.op);
-    let future = run_one(alloc, kind, &items, place, sizes, &mut function, gate)?;
-    let calls = calls_of(alloc, &function)?;
+    match ended {
+        Outcome::Canceled => true,
+        Outcome::Values(_) | Outcome::Failed(_) => false,
+    }
+}
+
+/// Closes the engine of a job, and says what became of it.
+///
+/// No caller cancels a job that is run so far. So one that was canceled wanted memory, and so does this call.
+pub fn report_of<F: ItemFn + Drop, G: Gate, R: Wait>(
+    alloc: Global,
+    rt: &R,
+    source: &Source<'_>,
+    engine: Engine<'_, F, G>,
+    done: Finished,
+    workers: u32,
+) -> Result<JobReport, NoMemory>
+    requires ready { IsReady source.now }
+    requires engine { IsEngineFor F.value workers source.now engine }
+    requires done { HasDone F.value engine done }
+    ensures { IfOk result (IsReportFor source.now) }
+{
+    let Finished { pass, calls } = done;
+    let future = engine.close(rt, pass);
     let journal = journal_of(alloc, &future)?;
-    let events = events_of(alloc, &future, job.watch)?;
+    let events = events_of(alloc, &future, source.job.watch)?;
+    let ended = future.into_outcome()?;
+    if is_canceled(&ended) {
+        return Err(NoMemory);
+    }
     // The proof has from this law that what follows is a report.
-    driven_jobs_are_reported();
+    worked_jobs_are_reported();
     Ok(JobReport {
-        ended: future.into_outcome()?,
+        ended,
         partial: List::new(alloc),
         order: None,
         any: None,

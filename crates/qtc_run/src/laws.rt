@@ -1,10 +1,5 @@
 //! What the definitions of `specs/` come to, in other words.
-ghost use Rattle.qtc_run.specs.Laws.{CallsAreOnce, DrivenJobsAreReported, GoodJobsFinish, JobsAreReportedInOrder, JobsFailAtTheFirstBad, LinesCountFeeds, PiecesAreTheText, ReportsGoJobByJob, ReadFilesCanBeCounted};
-
-use qtc_kernel::{
-    accepted_batches_are_right, failures_are_bad_items, futures_are_legal,
-    no_index_is_called_twice, ranges_are_blocks, whole_runs_are_sequential,
-};
+ghost use Rattle.qtc_run.specs.Laws.{CallsAreOnce, GoodJobsFinish, JobsAreReportedInOrder, JobsFailAtTheFirstBad, LinesCountFeeds, PiecesAreTheText, ReportsAreSequential, ReportsGoJobByJob, ReadFilesCanBeCounted, WorkedJobsAreReported};
 
 /// Each piece but the last has as many bytes as the job says, the last has 1 to as many, and one after the other they
 /// are the text.
@@ -27,21 +22,20 @@ pub fn calls_are_once()
     ensures { CallsAreOnce }
 {}
 
-/// What one worker makes of a job may be reported, and is the sequential answer.
-pub fn driven_jobs_are_reported()
-    ensures { DrivenJobsAreReported }
-{
-    no_index_is_called_twice();
-    accepted_batches_are_right();
-    ranges_are_blocks();
-    failures_are_bad_items();
-    futures_are_legal();
-    whole_runs_are_sequential();
-}
+/// What the workers of an engine make of a job may be reported.
+pub fn worked_jobs_are_reported()
+    ensures { WorkedJobsAreReported }
+{}
 
 /// A job of which no item is bad ends with its kept texts, whoever worked on it.
 pub fn good_jobs_finish()
     ensures { GoodJobsFinish }
+{}
+
+/// The values of a report are the sequential answer, whoever worked on the job; and where it failed, the sequential answer
+/// fails too.
+pub fn reports_are_sequential()
+    ensures { ReportsAreSequential }
 {}
 
 /// One job more at the end of a file appends its text to the report.

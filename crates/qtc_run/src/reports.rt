@@ -4,6 +4,7 @@ ghost use Rattle.qtc_run.specs.Reports.{is_unfinished as is_unfinished_end};
 use qtc_base::{Bytes, List, NoMemory};
 use qtc_events::{Entry, Event};
 use qtc_future::Outcome;
+use qtc_pool_core::PoolEntry;
 
 /// A result of a canceled job: its index, or in a filter its position, and its value.
 #[derive(Drop)]
@@ -23,7 +24,7 @@ pub struct JobReport {
     pub order: Option<List<u32>>,
     /// Which of the jobs that an `input any` names gave its items, from 0.
     pub any: Option<u32>,
-    /// The indexes that its function was called on.
+    /// The indexes that its functions were called on, worker by worker.
     pub calls: List<u32>,
     /// The calls on its future that had an effect, in order.
     pub journal: List<Entry>,
@@ -31,10 +32,14 @@ pub struct JobReport {
     pub events: List<Event>,
 }
 
-/// What is reported of a run: its jobs in the order of the file.
+/// What is reported of a run.
 #[derive(Drop)]
 pub struct Report {
+    /// Its jobs, in the order of the file.
     pub jobs: List<JobReport>,
+    /// What the pool did, in order: a job at the place J is begun by the task with the id 32 J, and the worker that its
+    /// worker in slot S - 1 calls is the task with the id 32 J + S.
+    pub pool: List<PoolEntry>,
 }
 
 /// Why a run has no report.

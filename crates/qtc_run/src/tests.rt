@@ -15,8 +15,11 @@ use qtc_job::{Job, JobFile, parse};
 use qtc_outside::{Gate, NoGate};
 use std::alloc::Global;
 use std::process::Abort;
-use std::sync::atomic::{AtomicU32, Ordering};
+use std::sync::Wait;
+use std::sync::atomic::AtomicU32;
+use std::sync::atomic::Ordering::SeqCst;
 use std::test::Fail;
+use std::thread::{Threads, yield_now};
 
 mod plain;
 
@@ -57,33 +60,54 @@ fn read(rt: &impl Abort, alloc: Global, text: &[u8]) -> Result<JobFile, Fail>
     Ok(parse(alloc, text)?)
 }
 
-// What a job file reports over texts, with the text of it.
-fn run<G: Gate>(
-    rt: &impl Abort,
+// What a job file reports over texts, worked on by so many workers, with the text of it.
+fn run<G: Gate, R: Abort + Threads + Wait + Sync>(
+    rt: &R,
     alloc: Global,
     text: &[u8],
     texts: &[(&[u8], &[u8])],
+    workers: u32,
     gate: &G,
-) -> Result<(Report, Bytes), Fail> {
+) -> Result<(Report, Bytes), Fail>
+    requires { (1 ≤ workers) × (workers ≤ 32) }
+{
     let file = read(rt, alloc, text)?;
     let loaded = load(rt, alloc, texts)?;
     assert!(rt; is_runnable(&file));
     assert!(rt; has_all(&file, &loaded));
-    let report = run_file(alloc, &file, &loaded, gate)?;
+    let report = run_file(alloc, rt, &file, &loaded, workers, gate)?;
     let text = report_text(alloc, &file, &report)?;
     Ok((report, text))
 }
 
-// Whether the jobs of a file over texts finish, with this report.
-fn finishes(
-    rt: &impl Abort,
+// Whether so many workers report this of a file over texts, and whether a job of it failed.
+fn reports<R: Abort + Threads + Wait + Sync>(
+    rt: &R,
     alloc: Global,
     file: &[u8],
     texts: &[(&[u8], &[u8])],
-    want: &[u8],
+    workers: u32,
+    want: (&[u8], bool),
+) -> Result<bool, Fail>
+    requires { (1 ≤ workers) × (workers ≤ 32) }
+{
+    let (report, text) = run(rt, alloc, file, texts, workers, &NoGate)?;
+    Ok(text.as_slice() == want.0 && report.has_failed() == want.1)
+}
+
+// Whether 1, 4 and 32 workers do.
+fn all_report<R: Abort + Threads + Wait + Sync>(
+    rt: &R,
+    alloc: Global,
+    file: &[u8],
+    texts: &[(&[u8], &[u8])],
+    want: (&[u8], bool),
 ) -> Result<bool, Fail> {
-    let (report, text) = run(rt, alloc, file, texts, &NoGate)?;
-    Ok(text.as_slice() == want && !report.has_failed())
+    Ok(
+        reports(rt, alloc, file, texts, 1, want)?
+            && reports(rt, alloc, file, texts, 4, want)?
+            && reports(rt, alloc, file, texts, 32, want)?,
+    )
 }
 
 #[test]
@@ -120,7 +144,15 @@ fn jobs_over_one_text_are_reported(rt: HostRuntime) -> Result<(), Fail> {
             b"job a finished 0\njob b finished 0\n",
         ),
     ] {
-        assert!(rt; finishes(&rt, rt.alloc(), file, &[(b"t".as_slice(), text)], want)?);
+        assert!(rt;
+            all_report(
+                &rt,
+                rt.alloc(),
+                file,
+                &[(b"t".as_slice(), text)],
+                (want, false)
+            )?
+        );
     }
     Ok(())
 }
@@ -128,48 +160,63 @@ fn jobs_over_one_text_are_reported(rt: HostRuntime) -> Result<(), Fail> {
 #[test]
 fn texts_are_found_by_their_names(rt: HostRuntime) -> Result<(), Fail> {
     let alloc = rt.alloc();
-    assert!(rt; finishes(&rt, alloc, b"", &[], b"")?);
+    assert!(rt; all_report(&rt, alloc, b"", &[], (b"", false))?);
     let file = b"job a\ninput files t u\\x20v t\nmap length\n";
     let texts = [(b"t".as_slice(), b"ab\nc".as_slice()), (b"u v", b"")];
-    assert!(rt; finishes(&rt, alloc, file, &texts, b"job a finished 3\n4\n0\n4\n")?);
+    assert!(rt;
+        all_report(
+            &rt,
+            alloc,
+            file,
+            &texts,
+            (b"job a finished 3\n4\n0\n4\n", false)
+        )?
+    );
     let file = b"job a\ninput lines \xc3\xa4\nmap same\n";
     let texts = [(b"\xc3\xa4".as_slice(), b"\xc3\xa4\t\\\nb\n".as_slice())];
     let want = b"job a finished 2\n\xc3\xa4\\x09\\x5c\nb\n";
-    assert!(rt; finishes(&rt, alloc, file, &texts, want)?);
+    assert!(rt; all_report(&rt, alloc, file, &texts, (want, false))?);
     Ok(())
 }
 
 #[test]
-fn jobs_fail_with_their_first_bad_item(rt: HostRuntime) -> Result<(), Fail> {
-    for (file, text, want, calls) in [
+fn one_bad_item_fails_a_job(rt: HostRuntime) -> Result<(), Fail> {
+    for (file, text, want) in [
         (
             b"job a\ninput lines t\nmap number\n".as_slice(),
             b"1\nx".as_slice(),
             b"job a failed 1 x\n".as_slice(),
-            [0, 1].as_slice(),
-        ),
-        (
-            b"job a\ninput lines t\nmap number\n",
-            b"007\n\t\\\xff\nx\n",
-            b"job a failed 1 \\x09\\x5c\xff\n",
-            [0, 1].as_slice(),
         ),
         (
             b"job a\ninput lines t\nmap number\njob b\ninput lines t\nfilter contains 7\n",
             b"\n7\n77\n",
             b"job a failed 0 \njob b finished 2\n7\n77\n",
-            [0, 0, 1, 2].as_slice(),
         ),
     ] {
-        let texts = [(b"t".as_slice(), text)];
-        let (report, written) = run(&rt, rt.alloc(), file, &texts, &NoGate)?;
-        assert_eq!(rt; written.as_slice(), want);
-        assert!(rt; report.has_failed());
-        let mut called = Vec::new(rt.alloc());
-        for job in report.jobs.as_slice() {
-            called.extend_from_slice(job.calls.as_slice())?;
-        }
-        assert_eq!(rt; called.as_slice(), calls);
+        assert!(rt;
+            all_report(
+                &rt,
+                rt.alloc(),
+                file,
+                &[(b"t".as_slice(), text)],
+                (want, true)
+            )?
+        );
+    }
+    Ok(())
+}
+
+#[test]
+fn one_worker_stops_at_the_first_bad_item(rt: HostRuntime) -> Result<(), Fail> {
+    let file = b"job a\ninput lines t\nmap number\n";
+    let texts = [(b"t".as_slice(), b"007\n\t\\\xff\nx\n".as_slice())];
+    let (report, written) = run(&rt, rt.alloc(), file, &texts, 1, &NoGate)?;
+    assert_eq!(rt;
+        written.as_slice(),
+        b"job a failed 1 \\x09\\x5c\xff\n".as_slice()
+    );
+    for job in report.jobs.as_slice() {
+        assert_eq!(rt; job.calls.as_slice(), [0, 1].as_slice());
     }
     Ok(())
 }
@@ -194,7 +241,9 @@ fn a_text_that_two_jobs_read_counts_twice(rt: HostRuntime) -> Result<(), Fail> {
         items: 10_000_000,
         bytes: 0,
     };
-    assert!(rt; matches!(run_file(alloc, &file, &loaded, &NoGate), Err(fault) if fault == want));
+    assert!(rt;
+        matches!(run_file(alloc, &rt, &file, &loaded, 4, &NoGate), Err(fault) if fault == want)
+    );
     Ok(())
 }
 
@@ -216,34 +265,92 @@ fn other_jobs_are_not_run_yet(rt: HostRuntime) -> Result<(), Fail> {
     Ok(())
 }
 
-// Counts its entries, and those that don't come by job and then by ascending index, three indexes a job.
+// Counts its entries, and those that aren't the wanted one at their place.
 #[derive(Drop)]
-struct Recorder {
+struct Recorder<'a> {
+    want: &'a [(u32, u32)],
     entries: AtomicU32,
     wrong: AtomicU32,
 }
 
-impl Gate for Recorder {
+impl<'a> Gate for Recorder<'a> {
     fn enter(&self, job: u32, index: u32) {
-        let before = self.entries.fetch_add(1, Ordering::SeqCst);
-        if job != before / 3 || index != before % 3 {
-            self.wrong.fetch_add(1, Ordering::SeqCst);
+        let before = self.entries.fetch_add(1, SeqCst);
+        if self.want.get(before as usize) != Some(&(job, index)) {
+            self.wrong.fetch_add(1, SeqCst);
         }
     }
 }
 
-#[test]
-fn the_gate_is_entered_with_each_job_and_index(rt: HostRuntime) -> Result<(), Fail> {
+// Whether one worker enters the gate with just these jobs and indexes, in this order.
+fn enters<R: Abort + Threads + Wait + Sync>(
+    rt: &R,
+    alloc: Global,
+    file: &[u8],
+    want: &[(u32, u32)],
+) -> Result<bool, Fail> {
     let gate = Recorder {
+        want,
         entries: AtomicU32::new(0),
         wrong: AtomicU32::new(0),
     };
+    let texts = [(b"t".as_slice(), b"a\n\nb".as_slice()), (b"u", b"ab")];
+    run(rt, alloc, file, &texts, 1, &gate)?;
+    Ok(gate.entries.load(SeqCst) as usize == want.len() && gate.wrong.load(SeqCst) == 0)
+}
+
+#[test]
+fn the_gate_is_entered_with_each_job_and_index(rt: HostRuntime) -> Result<(), Fail> {
     let file =
         b"job a\ninput lines t\nmap same\nblocks 2\njob b\ninput pieces 1 u\nfilter contains b\n";
-    let texts = [(b"t".as_slice(), b"a\n\nb".as_slice()), (b"u", b"abc")];
-    run(&rt, rt.alloc(), file.as_slice(), &texts, &gate)?;
-    assert_eq!(rt; gate.entries.load(Ordering::SeqCst), 6);
-    assert_eq!(rt; gate.wrong.load(Ordering::SeqCst), 0);
+    let want = [(0, 0), (0, 1), (0, 2), (1, 0), (1, 1)];
+    assert!(rt; enters(&rt, rt.alloc(), file.as_slice(), want.as_slice())?);
+    Ok(())
+}
+
+#[test]
+fn a_later_job_of_higher_priority_is_entered_first(rt: HostRuntime) -> Result<(), Fail> {
+    let file = b"job a\ninput lines t\nmap same\njob b\ninput pieces 1 u\nmap same\npriority 1\n";
+    let want = [(1, 0), (1, 1), (0, 0), (0, 1), (0, 2)];
+    assert!(rt; enters(&rt, rt.alloc(), file.as_slice(), want.as_slice())?);
+    Ok(())
+}
+
+const MOST_TURNS: u32 = 100_000_000;
+
+// Holds index 0 until index 1 has entered, for at most `MOST_TURNS` turns; then it is late.
+#[derive(Drop)]
+struct Meeting {
+    has_second: AtomicU32,
+    late: AtomicU32,
+}
+
+impl Gate for Meeting {
+    fn enter(&self, _job: u32, index: u32) {
+        if index == 1 {
+            self.has_second.store(1, SeqCst);
+            return;
+        }
+        for _ in 0..MOST_TURNS {
+            if self.has_second.load(SeqCst) == 1 {
+                return;
+            }
+            yield_now();
+        }
+        self.late.store(1, SeqCst);
+    }
+}
+
+#[test]
+fn two_workers_are_in_functions_at_once(rt: HostRuntime) -> Result<(), Fail> {
+    let gate = Meeting {
+        has_second: AtomicU32::new(0),
+        late: AtomicU32::new(0),
+    };
+    let file = b"job a\ninput lines t\nmap same\nblocks 1\n";
+    let texts = [(b"t".as_slice(), b"a\nb\n".as_slice())];
+    run(&rt, rt.alloc(), file.as_slice(), &texts, 2, &gate)?;
+    assert_eq!(rt; gate.late.load(SeqCst), 0);
     Ok(())
 }
 
@@ -251,7 +358,7 @@ fn the_gate_is_entered_with_each_job_and_index(rt: HostRuntime) -> Result<(), Fa
 fn blocks_are_reported_in_turn(rt: HostRuntime) -> Result<(), Fail> {
     let file = b"job a\ninput lines t\nfilter longer 0\nblocks 2 1\n";
     let texts = [(b"t".as_slice(), b"a\nb\n\nc\nd".as_slice())];
-    let (report, _) = run(&rt, rt.alloc(), file.as_slice(), &texts, &NoGate)?;
+    let (report, _) = run(&rt, rt.alloc(), file.as_slice(), &texts, 1, &NoGate)?;
     let entry = |call| Entry {
         caller: 0,
         call,
@@ -279,7 +386,10 @@ fn written(alloc: Global, job: JobReport) -> Result<Bytes, Fail> {
     if jobs.push(job).is_err() {
         return Err(Fail::from(NoMemory));
     }
-    let report = Report { jobs };
+    let report = Report {
+        jobs,
+        pool: List::new(alloc),
+    };
     if report.jobs.len() != file.jobs.len() {
         return Ok(Bytes::new(alloc));
     }

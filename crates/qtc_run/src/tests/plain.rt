@@ -1,10 +1,13 @@
 //! Runs are compared with a plain list program over job files and texts that are made by chance.
 
+ghost use Rattle.std.specs.Prelude.{◌<◌, ◌≤◌};
+
 use super::run;
+use crate::Report;
 use qtc_base::{Bytes, Items, List, NoMemory, Value, decimal, escape};
 use qtc_future::{Failure, Outcome};
 use qtc_job::{Input, Job, JobFile, parse};
-use qtc_ops::{ItemFault, ItemFn, OpFn};
+use qtc_ops::{ItemFault, ItemFn, ItemOp, OpFn};
 use qtc_outside::NoGate;
 use std::alloc::Global;
 use std::test::Fail;
@@ -17,7 +20,9 @@ struct Chance {
 
 impl Chance {
     /// A number below `bound`.
-    fn below(&mut self, bound: usize) -> usize {
+    fn below(&mut self, bound: usize) -> usize
+        ensures { 1 ≤ bound → result < bound }
+    {
         self.state = self
             .state
             .wrapping_mul(6_364_136_223_846_793_005)
@@ -111,8 +116,13 @@ fn items_of(alloc: Global, input: &Input, t: &[u8], u: &[u8]) -> Result<Items, F
             }
         }
         _ => {
-            for piece in t.chunks(3) {
-                items.push(piece)?;
+            let mut rest = t;
+            while let [a, b, c, others @ ..] = rest {
+                items.push(&[*a, *b, *c])?;
+                rest = others;
+            }
+            if !rest.is_empty() {
+                items.push(rest)?;
             }
         }
     }
@@ -171,23 +181,64 @@ fn append_ended(ended: &Outcome<Bytes>, into: &mut Bytes) -> Result<(), NoMemory
     Ok(())
 }
 
-/// Appends the lines of a job.
-fn append_job(alloc: Global, job: &Job, items: &Items, into: &mut Bytes) -> Result<(), NoMemory> {
-    let mut function = OpFn::new(alloc, job.op.copy()?);
-    let ended = applied(alloc, &mut function, items)?;
+/// Whether an operation finds this item of the items bad.
+fn is_bad(alloc: Global, op: &ItemOp, items: &Items, failure: &Failure) -> Result<bool, NoMemory> {
+    let mut function = OpFn::new(alloc, op.copy()?);
+    let Some(item) = items.get(failure.index) else {
+        return Ok(false);
+    };
+    let is_refused = matches!(function.apply(failure.index, item), Err(ItemFault::Bad));
+    Ok(is_refused && item == failure.item.as_slice())
+}
+
+/// Appends the lines of a job. Where it fails, many workers may have met another bad item first.
+fn append_job(
+    alloc: Global,
+    job: &Job,
+    items: &Items,
+    reported: &Outcome<Bytes>,
+    workers: u32,
+    into: &mut Bytes,
+) -> Result<(), NoMemory> {
     into.append(b"job ")?;
     into.append(job.name.as_slice())?;
+    let mut function = OpFn::new(alloc, job.op.copy()?);
+    let ended = applied(alloc, &mut function, items)?;
+    if let (Outcome::Failed(_), Outcome::Failed(failure)) = (&ended, reported) {
+        if workers > 1 && is_bad(alloc, &job.op, items, failure)? {
+            return append_ended(reported, into);
+        }
+    }
     append_ended(&ended, into)
 }
 
-/// The report of a file.
-fn plain_report(alloc: Global, file: &JobFile, t: &[u8], u: &[u8]) -> Result<Bytes, Fail> {
-    let mut report = Bytes::new(alloc);
-    for job in file.jobs.as_slice() {
+/// The report of a file, which so many workers worked on.
+fn plain_report(
+    alloc: Global,
+    file: &JobFile,
+    report: &Report,
+    workers: u32,
+    t: &[u8],
+    u: &[u8],
+) -> Result<Bytes, Fail> {
+    let mut text = Bytes::new(alloc);
+    for (job, done) in file
+        .jobs
+        .as_slice()
+        .iter()
+        .zip(report.jobs.as_slice().iter())
+    {
         let items = items_of(alloc, &job.input, t, u)?;
-        append_job(alloc, job, &items, &mut report)?;
+        append_job(alloc, job, &items, &done.ended, workers, &mut text)?;
     }
-    Ok(report)
+    Ok(text)
+}
+
+/// A number of workers.
+fn some_workers(chance: &mut Chance) -> u32
+    ensures { (1 ≤ result) × (result ≤ 32) }
+{
+    1 + chance.below(32) as u32
 }
 
 #[test]
@@ -197,18 +248,19 @@ fn runs_report_what_a_plain_list_program_does(rt: HostRuntime) -> Result<(), Fai
     println!(rt; "seed {seed}")?;
     let mut chance = Chance { state: seed };
     let mut failed = 0u32;
-    for _ in 0..300 {
+    for _ in 0..60 {
         let text = chance.file(alloc)?;
         let t = chance.text(alloc)?;
         let u = chance.text(alloc)?;
+        let workers = some_workers(&mut chance);
         let texts = [(b"t".as_slice(), t.as_slice()), (b"u", u.as_slice())];
-        let (report, written) = run(&rt, alloc, text.as_slice(), &texts, &NoGate)?;
+        let (report, written) = run(&rt, alloc, text.as_slice(), &texts, workers, &NoGate)?;
         assert!(rt; text.len() <= 1_048_576);
         let file = parse(alloc, text.as_slice())?;
-        let want = plain_report(alloc, &file, t.as_slice(), u.as_slice())?;
+        let want = plain_report(alloc, &file, &report, workers, t.as_slice(), u.as_slice())?;
         assert_eq!(rt; written.as_slice(), want.as_slice());
         failed = failed.saturating_add(u32::from(report.has_failed()));
     }
-    assert!(rt; failed > 20 && failed < 280);
+    assert!(rt; failed > 4 && failed < 56);
     Ok(())
 }

@@ -1,0 +1,77 @@
+-- The jobs of a round: their engines, and the desks of the pool's workers. (Own.)
+use Rattle.std.specs.Prelude.{◌≡◌, ◌+◌, ◌<◌, ◌≤◌, ℕ, false, List, [], ◌∷◌, ◌++◌, All, IsTrue, length, replicate}
+use Rattle.qtc_job.specs.declared.jobs.Job.{Job}
+use Rattle.qtc_kernel.specs.Crews.{Crew, DeskState, IsDesk, work_of as crew_work}
+use Rattle.qtc_kernel.specs.Driving.{AreSizes}
+use Rattle.qtc_kernel.specs.WorkedOut.{IsWorkedOut}
+use Rattle.qtc_kernel.specs.Workload.{Workload, workload}
+use Rattle.qtc_kernel.specs.declared.finishing.Finished.{Finished}
+use Rattle.qtc_ops.specs.ItemValue.{ItemValue}
+use Rattle.qtc_ops.specs.Operations.{value_of}
+use Rattle.qtc_shared.specs.Journals.{flags_at}
+use Rattle.qtc_shared.specs.Parts.{Terms}
+use Rattle.qtc_run.specs.Reports.{IsReport, is_keep}
+use Rattle.qtc_run.specs.Runnable.{is_runnable}
+use Rattle.qtc_run.specs.Sources.{Texts, items_of}
+use Rattle.qtc_run.specs.declared.reports.JobReport.{JobReport}
+use Rattle.qtc_run.specs.declared.rounds.Source.{Source}
+
+-- ---- jobs with their items
+
+-- the job of a file, with its items of the texts
+pub record IsSourceOf (texts : Texts) (job : Job) (source : Source) : Type 0 where
+  pub job_is : source.job.now ≡ job
+  pub items_are : source.items ≡ items_of texts job.input
+
+-- a job that can be run: one of at most 64, with few enough items
+pub record IsReady (source : Source) : Type 0 where
+  pub place : source.place < 64
+  pub runnable : IsTrue (is_runnable source.job.now)
+  pub blocks : AreSizes source.job.now.blocks
+  pub few : length source.items ≤ 8388608
+
+abbrev pub work_in : Source → Workload
+work_in source = workload source.items (value_of source.job.now.op)
+
+abbrev pub IsReportFor : Source → JobReport → Type 0
+IsReportFor source report = IsReport source.job.now (work_in source) report
+
+-- ---- engines
+
+-- what the future of a job is made with: each worker, and the pass that reports for all, may report
+abbrev pub terms_of : ℕ → Job → Terms
+terms_of workers job = record {
+  filter = is_keep job.op;
+  thresholds = record { cancel_after = job.cancel_after; suspend_after = job.suspend_after };
+  makers = workers + 1;
+}
+
+module _ {F : Type 0} (value : F → List ℕ → ItemValue) where
+  -- the engine of a job: it works on the job's items by its operation and in its blocks, with so many workers
+  pub record IsEngineFor (workers : ℕ) (source : Source) (crew : Crew F) : Type 0 where
+    pub work : crew_work value crew ≡ work_in source
+    pub sizes : crew.sizes ≡ source.job.now.blocks
+    pub count : crew.counter.workers ≡ workers
+    pub terms : crew.future.terms ≡ terms_of workers source.job.now
+
+  -- what the engine has done, and a pass of it that knows the whole journal
+  pub record HasDone (crew : Crew F) (done : Finished) : Type 0 where
+    pub of : done.pass.of ≡ crew.future
+    pub finished : IsTrue (flags_at done.pass.known).finished
+    pub worked : IsWorkedOut (crew_work value crew) crew.sizes crew.future.terms done.pass.known done.calls
+
+module _ {F : Type 0} (value : F → List ℕ → ItemValue) (called : F → List ℕ) where
+  -- a desk of the engine whose worker is out
+  pub record IsFree (crew : Crew F) (desk : DeskState F) : Type 0 where
+    pub desk_is : IsDesk value called crew desk
+    pub out : desk.is_in ≡ false
+
+  -- all desks of the engine, whose workers are out
+  pub record AreFree (crew : Crew F) (desks : List (DeskState F)) : Type 0 where
+    pub count : length desks ≡ crew.counter.workers
+    pub each : All (IsFree crew) desks
+
+-- each of them so many times: of all places, those at a job after those at the one before, one for each worker
+abbrev pub each_times : {X : Type 0} → ℕ → List X → List X
+each_times n [] = []
+each_times n (x ∷ xs) = replicate n x ++ each_times n xs

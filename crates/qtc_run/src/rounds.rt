@@ -1,0 +1,294 @@
+//! A round of jobs: an engine for each, and one pool whose workers have a desk at each engine.
+ghost use Rattle.std.specs.Prelude.{List as PlainList, ◌≡◌, ◌<◌, ◌≤◌, ◌++◌, [], All, IfOk, OnOk, drop, length, replicate, take};
+ghost use Rattle.std.specs.Vec.Iter.{into_iter_items};
+ghost use Rattle.qtc_kernel.specs.Crews.{Crew};
+ghost use Rattle.qtc_ops.specs.Operations.{value_of};
+ghost use Rattle.qtc_run.specs.Pairing.{EachPair};
+ghost use Rattle.qtc_run.specs.Reports.{IsPoolRun};
+ghost use Rattle.qtc_run.specs.Rounds.{AreFree, HasDone, IsEngineFor, IsFree, IsReady, IsReportFor, each_times};
+
+use crate::crowds::{Worker, run_crowd};
+use crate::job_runs::{kind_of, report_of};
+use crate::places::Place;
+use crate::slots::Slot;
+use crate::{JobReport, Report};
+use qtc_base::{Items, List, NoMemory, Value};
+use qtc_job::Job;
+use qtc_kernel::{Desk, Engine, Finished, Plan};
+use qtc_ops::{ItemFn, ItemOp, OpFn};
+use qtc_outside::Gate;
+use qtc_pool::Pool;
+use std::alloc::Global;
+use std::sync::Wait;
+use std::thread::Threads;
+use std::vec::IntoIter;
+
+/// A job of the round: its place in the file, and its items.
+#[derive(Drop)]
+pub(crate) struct Source<'j> {
+    pub place: u32,
+    pub job: &'j Job,
+    pub items: Items,
+}
+
+/// The engines of the jobs, and their desks, job by job.
+#[derive(Drop)]
+struct Opened<'a, G: Gate> {
+    engines: Vec<Engine<'a, OpFn, G>>,
+    desks: Vec<Desk<OpFn>>,
+}
+
+/// A function of the operation for each worker, none of which was called yet.
+fn functions_of(alloc: Global, op: &ItemOp, workers: u32) -> Result<Vec<OpFn>, NoMemory>
+    ensures count { IfOk result (λ functions. length functions.items ≡ workers) }
+    ensures value { IfOk result (λ functions.
+        All (λ function. ⟦<OpFn as ItemFn>⟧.value function ≡ value_of op.now) functions.items) }
+    ensures fresh { IfOk result (λ functions.
+        All (λ function. ⟦<OpFn as ItemFn>⟧.called function ≡ []) functions.items) }
+{
+    let mut functions = Vec::new(alloc);
+    for _ in 0..workers {
+        functions.push(OpFn::new(alloc, op.copy()?))?;
+    }
+    Ok(functions)
+}
+
+/// An engine for the job, and its desks.
+fn open_job<'a, G: Gate>(
+    alloc: Global,
+    source: &'a Source<'a>,
+    workers: u32,
+    gate: &'a G,
+) -> Result<(Engine<'a, OpFn, G>, Vec<Desk<OpFn>>), NoMemory>
+    requires ready { IsReady source.now }
+    requires workers { (1 ≤ workers) × (workers ≤ 32) }
+    ensures engine { IfOk result (λ made. IsEngineFor ⟦<OpFn as ItemFn>⟧.value workers source.now made.0) }
+    ensures desks { IfOk result (λ made.
+        AreFree ⟦<OpFn as ItemFn>⟧.value ⟦<OpFn as ItemFn>⟧.called made.0 made.1.items) }
+{
+    let functions = functions_of(alloc, &source.job.op, workers)?;
+    let blocks = Vec::from_slice(alloc, source.job.blocks.as_slice())?;
+    let plan = Plan {
+        kind: kind_of(&source.job.op),
+        items: &source.items,
+        job: source.place,
+        workers,
+        blocks: List::from_vec(blocks),
+        cancel_after: source.job.cancel_after,
+        suspend_after: source.job.suspend_after,
+    };
+    let (engine, desks, _pass) = Engine::new(alloc, plan, functions, gate)?;
+    Ok((engine, desks))
+}
+
+/// An engine for each job.
+fn open_all<'a, G: Gate>(
+    alloc: Global,
+    sources: &'a [Source<'a>],
+    workers: u32,
+    gate: &'a G,
+) -> Result<Opened<'a, G>, NoMemory>
+    requires ready { All IsReady sources.now }
+    requires workers { (1 ≤ workers) × (workers ≤ 32) }
+    ensures engines { IfOk result (λ opened.
+        EachPair (IsEngineFor ⟦<OpFn as ItemFn>⟧.value workers) sources.now opened.engines.items) }
+    ensures desks { IfOk result (λ opened.
+        EachPair (IsFree ⟦<OpFn as ItemFn>⟧.value ⟦<OpFn as ItemFn>⟧.called)
+        (each_times workers opened.engines.items) opened.desks.items) }
+{
+    let mut engines = Vec::new(alloc);
+    let mut desks = Vec::new(alloc);
+    for source in sources {
+        let (engine, mut theirs) = open_job(alloc, source, workers, gate)?;
+        engines.push(engine)?;
+        desks.append(&mut theirs)?;
+    }
+    Ok(Opened { engines, desks })
+}
+
+/// A pool of so many workers, in which the first slot of each job is queued.
+fn queue_all<R: Wait>(
+    alloc: Global,
+    rt: &R,
+    sources: &[Source<'_>],
+    workers: u32,
+) -> Result<Pool<Slot>, NoMemory>
+    requires ready { All IsReady sources.now }
+    requires workers { (1 ≤ workers) × (workers ≤ 32) }
+    ensures { IfOk result (λ pool. pool.first ≡ workers) }
+{
+    let pool = Pool::new(alloc, workers)?;
+    for source in sources {
+        Slot::first(source.place, source.job.priority, workers).start(rt, &pool)?;
+    }
+    Ok(pool)
+}
+
+/// A place at an engine for each of the next so many desks.
+fn seat_row<'e, 'a, F: ItemFn + Drop, G: Gate>(
+    engine: &'e Engine<'a, F, G>,
+    count: u32,
+    desks: &mut IntoIter<Desk<F>>,
+    places: &mut Vec<Place<'e, 'a, F, G>>,
+) -> Result<(), NoMemory>
+    requires count { count ≤ length (into_iter_items desks.old) }
+    requires free { All (IsFree F.value F.called engine.now) (take count (into_iter_items desks.old)) }
+    ensures desks { OnOk result (into_iter_items desks.new ≡ drop count (into_iter_items desks.old)) }
+    ensures places { OnOk result (places.new.items ≡ places.old.items ++ replicate count engine.now) }
+{
+    for _ in 0..count {
+        if let Some(desk) = desks.next() {
+            places.push(Place::new(engine, desk))?;
+        }
+    }
+    Ok(())
+}
+
+/// A place at its engine for each desk.
+fn seat_all<'e, 'a, F: ItemFn + Drop, G: Gate>(
+    alloc: Global,
+    engines: &'e [Engine<'a, F, G>],
+    desks: Vec<Desk<F>>,
+    workers: u32,
+) -> Result<Vec<Place<'e, 'a, F, G>>, NoMemory>
+    requires { EachPair (IsFree F.value F.called) (each_times workers engines.now) desks.items }
+    ensures { IfOk result (λ places. places.items ≡ each_times workers engines.now) }
+{
+    let mut places = Vec::new(alloc);
+    let mut desks = desks.into_iter();
+    for engine in engines {
+        seat_row(engine, workers, &mut desks, &mut places)?;
+    }
+    Ok(places)
+}
+
+/// Lets so many workers do the tasks of the pool at the desks, and gives back a place for each desk.
+fn work_on<'e, 'a, F: ItemFn + Drop, G: Gate, R: Threads + Wait + Sync>(
+    alloc: Global,
+    rt: &R,
+    pool: &Pool<Slot>,
+    engines: &'e [Engine<'a, F, G>],
+    desks: Vec<Desk<F>>,
+    workers: u32,
+) -> Result<Vec<Place<'e, 'a, F, G>>, NoMemory>
+    requires desks { EachPair (IsFree F.value F.called) (each_times workers engines.now) desks.items }
+    requires workers { 1 ≤ workers }
+    ensures { IfOk result (λ places. places.items ≡ each_times workers engines.now) }
+{
+    let places = seat_all(alloc, engines, desks, workers)?;
+    let left = run_crowd(
+        alloc,
+        rt,
+        pool,
+        places,
+        engines.len(),
+        workers,
+        &|pool: &Pool<Slot>, slot: &Slot, worker: &mut Worker<Place<'_, '_, F, G>>|
+            ensures { worker.new ≡ worker.old }
+        {
+            worker.work(rt, pool, slot);
+        },
+    )?;
+    Ok(left)
+}
+
+/// The desks of the next so many places.
+fn desks_at<'e, 'a, F: ItemFn + Drop, G: Gate>(
+    alloc: Global,
+    places: &mut IntoIter<Place<'e, 'a, F, G>>,
+    count: u32,
+) -> Result<Vec<Desk<F>>, NoMemory>
+    ensures { IfOk result (λ desks. (crew : Crew F) (rest : PlainList (Crew F)) →
+        into_iter_items places.old ≡ replicate count crew ++ rest →
+        (length desks.items ≡ count) × All (IsFree F.value F.called crew) desks.items
+        × (into_iter_items places.new ≡ rest)) }
+{
+    let mut desks = Vec::new(alloc);
+    for _ in 0..count {
+        if let Some(place) = places.next() {
+            desks.push(place.into_desk())?;
+        }
+    }
+    Ok(desks)
+}
+
+/// Finishes the engines in their order, each with the desks of its places.
+fn finish_all<'e, 'a, F: ItemFn + Drop, G: Gate, R: Wait>(
+    alloc: Global,
+    rt: &R,
+    engines: &[Engine<'a, F, G>],
+    places: Vec<Place<'e, 'a, F, G>>,
+    workers: u32,
+) -> Result<Vec<Finished>, NoMemory>
+    requires places { places.items ≡ each_times workers engines.now }
+    requires workers { All (λ crew. crew.counter.workers ≡ workers) engines.now }
+    ensures { IfOk result (λ finished. EachPair (HasDone F.value) engines.now finished.items) }
+{
+    let mut finished = Vec::new(alloc);
+    let mut places = places.into_iter();
+    for engine in engines {
+        let desks = desks_at(alloc, &mut places, workers)?;
+        let done = engine.finish(rt, alloc, desks)?;
+        finished.push(done)?;
+    }
+    Ok(finished)
+}
+
+/// Closes the engines in their order, and reports each job.
+fn report_all<'a, F: ItemFn + Drop, G: Gate, R: Wait>(
+    alloc: Global,
+    rt: &R,
+    sources: &[Source<'_>],
+    engines: Vec<Engine<'a, F, G>>,
+    finished: Vec<Finished>,
+    workers: u32,
+) -> Result<List<JobReport>, NoMemory>
+    requires ready { All IsReady sources.now }
+    requires engines { EachPair (IsEngineFor F.value workers) sources.now engines.items }
+    requires finished { EachPair (HasDone F.value) engines.items finished.items }
+    ensures { IfOk result (λ reports. EachPair IsReportFor sources.now reports) }
+{
+    let mut reports = List::new(alloc);
+    let mut finished = finished.into_iter();
+    let mut engines = engines.into_iter();
+    for source in sources {
+        let Some(engine) = engines.next() else {
+            unreachable!("each job has an engine");
+        };
+        let Some(done) = finished.next() else {
+            unreachable!("each engine was finished");
+        };
+        let report = report_of(alloc, rt, source, engine, done, workers)?;
+        match reports.push(report) {
+            Ok(()) => {}
+            Err(_report) => return Err(NoMemory),
+        }
+    }
+    Ok(reports)
+}
+
+/// Runs the jobs of a round on a pool of so many workers. Err is want of memory.
+pub fn run_round<G: Gate, R: Threads + Wait + Sync>(
+    alloc: Global,
+    rt: &R,
+    sources: &[Source<'_>],
+    workers: u32,
+    gate: &G,
+) -> Result<Report, NoMemory>
+    requires ready { All IsReady sources.now }
+    requires workers { (1 ≤ workers) × (workers ≤ 32) }
+    ensures reports { IfOk result (λ report. EachPair IsReportFor sources.now report.jobs) }
+    ensures pool { IfOk result (λ report. IsPoolRun workers report.pool) }
+{
+    let Opened { engines, desks } = open_all(alloc, sources, workers, gate)?;
+    let pool = queue_all(alloc, rt, sources, workers)?;
+    let places = work_on(alloc, rt, &pool, &engines, desks, workers)?;
+    let core = pool.close(rt);
+    let journal = Vec::from_slice(alloc, core.journal())?;
+    let finished = finish_all(alloc, rt, &engines, places, workers)?;
+    let jobs = report_all(alloc, rt, sources, engines, finished, workers)?;
+    Ok(Report {
+        jobs,
+        pool: List::from_vec(journal),
+    })
+}

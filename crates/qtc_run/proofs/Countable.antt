@@ -1,4 +1,5 @@
--- The jobs of a file that was read are few, its lists of files are short, and its pieces have a byte.
+-- The jobs of a file that was read are few, its lists of files are short, its pieces have a byte, and its workers are 1 to
+-- 32.
 use Rattle.std.proofs.Common.{◌≡◌, ℕ, zero, suc, ◌+◌, ◌-◌, ◌<◌, ◌≤◌, Bool, true, false, cond, eqb, ltb, leb, List, [], ◌∷◌, ◌++◌, length, map, take, drop, get_or, Option, Some, None, refl, ap, sym, subst, ◌∙◌, append_assoc, append-nil, ⊎_elim, arith}
 use Rattle.std.specs.Prelude.{All, Contains, ◌&&◌, not, reverse}
 use Rattle.std.proofs.lemmas.List.{reverse-reverse, length-map, take_all}
@@ -15,12 +16,14 @@ use Rattle.qtc_job.specs.declared.jobs.JobFile.{JobFile}
 use Rattle.qtc_job.specs.declared.keywords.Keyword.{Keyword}
 use Rattle.qtc_job.specs.declared.keywords.Keyword.TheVariants as word
 use Rattle.qtc_job.specs.Codes.{codes_on, own_codes, job_codes, own_below, above_codes, form_codes, word_codes, where_, names_above, name_of, stands, is_no_number, is_out_of_range, is_repeated, repeats_a_name, is_a_job_too_many}
-use Rattle.qtc_job.specs.Forms.{Place, number, literal, chosen, input_form, directive_form, job_form}
+use Rattle.qtc_job.specs.Forms.{Place, number, literal, chosen, input_form, directive_form, job_form, workers_form}
 use Rattle.qtc_job.specs.Grammar.{IsBad, Reads, codes_at}
 use Rattle.qtc_job.specs.Keywords.{keyword_of, spelling}
+use Rattle.qtc_job.specs.Lawful.{IsWithin}
 use Rattle.qtc_job.specs.Lines.{Line, too_long, silent, unknown, workers, job, says, is_job}
 use Rattle.qtc_job.specs.Literals.{is_numeral, is_within}
-use Rattle.qtc_job.specs.Meaning.{input_kind, input_meant, args_of, jobs_of, job_of}
+use Rattle.qtc_job.specs.Meaning.{input_kind, input_meant, args_of, jobs_of, job_of, workers_of}
+use Rattle.qtc_job.proofs.LawfulLines.{workers-said}
 use Rattle.qtc_kernel.specs.Driving.{AreSizes}
 use Rattle.qtc_run.specs.Sums.{IsSized, IsCountable}
 
@@ -236,6 +239,20 @@ sizes-jobs names above (says k args ∷ ls) good = sizes-jobs names (says k args
 sizes-jobs names above (job args ∷ ls) good =
     All-cons (λ (j : Job). AreSizes j.blocks) (job_of names (name_of args) (own_below ls)) (jobs_of (names ++ name_of args ∷ []) ls) (sizes-own (job args ∷ above) ls good.1) (sizes-jobs (names ++ name_of args ∷ []) (job args ∷ above) ls good.1)
 
+-- ---- the number of workers
+
+crew-good : (above ls : List Line) → AllGood above ls → IsWithin 1 32 (workers_of ls)
+crew-good above [] good = (omega arith, omega arith)
+crew-good above (too_long ∷ ls) good = crew-good (too_long ∷ above) ls good.1
+crew-good above (silent ∷ ls) good = crew-good (silent ∷ above) ls good.1
+crew-good above (unknown ∷ ls) good = crew-good (unknown ∷ above) ls good.1
+crew-good above (job args ∷ ls) good = crew-good (job args ∷ above) ls good.1
+crew-good above (says k args ∷ ls) good = crew-good (says k args ∷ above) ls good.1
+crew-good above (workers args ∷ ls) good =
+    let own = nil-parts (own_codes above (workers args)) [] good.0 in
+    let form = nil-parts (form_codes [] (workers_form args)) (above_codes above (workers args)) own.0 in
+    workers-said args form.0
+
 -- ---- a file that was read
 
 pub read-countable : (lines : List Line) (file : JobFile) → Reads lines file → IsCountable file
@@ -245,4 +262,5 @@ read-countable lines file reads =
       few = (let few = few-jobs [] [] lines good (omega arith) in omega arith);
       sized = sized-jobs [] [] lines good;
       blocks = sizes-jobs [] [] lines good;
+      workers = crew-good [] lines good;
     })

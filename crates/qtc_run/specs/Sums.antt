@@ -41,12 +41,13 @@ IsSized (input.Files names) = length names ≤ 64
 IsSized (input.Pieces size name) = 1 ≤ size
 IsSized _ = Unit {0}
 
--- a file whose items can be counted in numbers of 64 bits, and taken in blocks: its jobs are few, each input is sized, and
--- the sizes of the blocks are such
+-- a file whose items can be counted in numbers of 64 bits, and taken in blocks by workers: its jobs are few, each input is
+-- sized, the sizes of the blocks are such, and its workers are 1 to 32
 pub record IsCountable (file : JobFile) : Type 0 where
   pub few : length file.jobs ≤ 64
   pub sized : All (λ (job : Job). IsSized job.input) file.jobs
   pub blocks : All (λ (job : Job). AreSizes job.blocks) file.jobs
+  pub workers : (1 ≤ file.workers) × (file.workers ≤ 32)
 
 -- every text that the jobs name is there, and their sizes can be added
 pub record CanCount (texts : Texts) (jobs : List Job) : Type 0 where

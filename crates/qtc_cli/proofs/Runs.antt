@@ -27,7 +27,7 @@ use Rattle.qtc_cli.specs.Endings.{IsRefused, WritesAll, WritesFront}
 use Rattle.qtc_cli.specs.Forms.{form, run, check}
 use Rattle.qtc_cli.specs.Loads.{most_texts, LoadsFile, LoadsTexts, texts_named, name_of, bytes_of}
 use Rattle.qtc_cli.specs.Refusals.{run_refusal, status_of, line_of, Hears, SaysFor}
-use Rattle.qtc_cli.specs.Run.{RunsFile, Ran, IsTextRefused, IsReadFault, HasManyItems, IsTooLarge, IsNotYet, CanRun, RunsAsSaid, IsCall, RunStops, Forms, done_status, RunEnds}
+use Rattle.qtc_cli.specs.Run.{AsksFor, RunsFile, Ran, IsRunOf, IsTextRefused, IsReadFault, HasManyItems, IsTooLarge, IsNotYet, CanRun, RunsAsSaid, IsCall, RunStops, done_status, RunEnds}
 use Rattle.qtc_cli.specs.Seen.{Seen, seen}
 use Rattle.qtc_cli.specs.declared.refusals.Refusal.{Refusal}
 use Rattle.qtc_cli.specs.declared.refusals.Refusal.TheVariants.{Usage, Bad, ReadFault, WriteFault, Memory, TooLarge, NotYet}
@@ -266,25 +266,19 @@ done-low status done =
       | inr one ↦ omega arith
     ]
 
-run-written : (call : Seen) (report : Option Report) (name : List ℕ) (made : Report) (text : List ℕ) → RunsFile call name → report ≡ Some made → Forms name call.texts made text call.texts_after → WritesAll text (done_status made) call.status call.out call.out_after call.err call.err_after → RunsAsSaid call report
-run-written call report name made text named report_is forms w =
+run-written : (call : Seen) (report : Option Report) (name : List ℕ) (workers : Option ℕ) (made : Report) (text : List ℕ) → AsksFor call workers name → report ≡ Some made → IsRunOf name workers call.texts made text call.texts_after → WritesAll text (done_status made) call.status call.out call.out_after call.err call.err_after → RunsAsSaid call report
+run-written call report name workers made text named report_is run_is w =
     let done = is-done (has_failed made) call.status w.status_is in
     let low = done-low call.status done in
     record {
       finished = λ _. record {
-        name = name;
-        named = named;
-        file = forms.file;
-        texts = forms.texts;
-        ran = forms.ran;
         made = made;
-        report_is = report_is;
         text = text;
-        reported = forms.reported;
+        reports = record { name = name; workers = workers; named = named; run_is = run_is; report_is = report_is };
         writes = w.takes;
         failed = one-where (has_failed made) call.status w.status_is;
       };
-      usage = (λ two. absurd (omega arith), λ unnamed. absurd (let n = named.1 in cc));
+      usage = (λ two. absurd (omega arith), λ unnamed. absurd cc);
       bad_job = λ three. absurd (omega arith);
       read_fault = λ four. absurd (omega arith);
       write_fault = λ five. absurd (omega arith);
@@ -293,27 +287,21 @@ run-written call report name made text named report_is forms w =
       only = omega arith;
       complete = λ can none. inl done;
       no_report = λ away _. absurd (away done);
-      outside = keeps-done call done w.quiet (ran-calm name call.texts call.texts_after forms.file forms.texts forms.ran);
+      outside = keeps-done call done w.quiet (ran-calm name call.texts call.texts_after run_is.file run_is.texts run_is.ran);
     }
 
-run-cut : (call : Seen) (report : Option Report) (name : List ℕ) (made : Report) (text : List ℕ) → RunsFile call name → report ≡ Some made → Forms name call.texts made text call.texts_after → WritesFront text call.status call.out call.out_after call.err call.err_after → RunsAsSaid call report
-run-cut call report name made text named report_is forms w =
+run-cut : (call : Seen) (report : Option Report) (name : List ℕ) (workers : Option ℕ) (made : Report) (text : List ℕ) → AsksFor call workers name → report ≡ Some made → IsRunOf name workers call.texts made text call.texts_after → WritesFront text call.status call.out call.out_after call.err call.err_after → RunsAsSaid call report
+run-cut call report name workers made text named report_is run_is w =
     let five = w.status_is in
     record {
       finished = λ done. absurd (not-done call.status WriteFault five done);
-      usage = (λ two. absurd (omega arith), λ unnamed. absurd (let n = named.1 in cc));
+      usage = (λ two. absurd (omega arith), λ unnamed. absurd cc);
       bad_job = λ three. absurd (omega arith);
       read_fault = λ four. absurd (omega arith);
       write_fault = λ _. record {
-        name = name;
-        named = named;
-        file = forms.file;
-        texts = forms.texts;
-        ran = forms.ran;
         made = made;
-        report_is = report_is;
         text = text;
-        reported = forms.reported;
+        reports = record { name = name; workers = workers; named = named; run_is = run_is; report_is = report_is };
         taken = w.taken;
         front = w.cut;
       };
@@ -322,17 +310,17 @@ run-cut call report name made text named report_is forms w =
       only = omega arith;
       complete = λ can none. absurd (none.out w.cut.rose);
       no_report = λ _ away. absurd (away five);
-      outside = keeps-cut call five w.hears (ran-calm name call.texts call.texts_after forms.file forms.texts forms.ran);
+      outside = keeps-cut call five w.hears (ran-calm name call.texts call.texts_after run_is.file run_is.texts run_is.ran);
     }
 
-run-call : (call : Seen) (report : Option Report) (name : List ℕ) → RunsFile call name → RunEnds name call.texts call.texts_after call.out call.out_after call.err call.err_after call.status report → RunsAsSaid call report
-run-call call report name named ends =
+run-call : (call : Seen) (report : Option Report) (name : List ℕ) (workers : Option ℕ) → AsksFor call workers name → RunEnds name workers call.texts call.texts_after call.out call.out_after call.err call.err_after call.status report → RunsAsSaid call report
+run-call call report name workers named ends =
     elim ends [
       | inl written ↦ elim written.writes [
-        | inl all ↦ run-written call report name written.made written.text named written.report_is written.forms all
-        | inr front ↦ run-cut call report name written.made written.text named written.report_is written.forms front
+        | inl all ↦ run-written call report name workers written.made written.text named written.report_is written.run_is all
+        | inr front ↦ run-cut call report name workers written.made written.text named written.report_is written.run_is front
       ]
-      | inr refused ↦ run-refused call report name refused.refused.said named (run-said name call.texts call.texts_after refused.refusal refused.refused.said refused.stops refused.refused.stands) refused.refused.status_is refused.refused.hears refused.untouched refused.no_report
+      | inr refused ↦ run-refused call report name refused.refused.said (workers, named) (run-said name call.texts call.texts_after refused.refusal refused.refused.said refused.stops refused.refused.stands) refused.refused.status_is refused.refused.hears refused.untouched refused.no_report
     ]
 
 usage-call : (call : Seen) (report : Option Report) → form call.words ≡ None → IsRefused Usage call.status call.err call.err_after → call.texts_after ≡ call.texts → call.out_after ≡ call.out → report ≡ None → RunsAsSaid call report
@@ -355,9 +343,9 @@ usage-call call report unnamed refused same_texts same_out nothing =
 
 -- ---- the same, with what is seen of a call given one by one
 
-pub run-call-of : (words : List (List ℕ)) (texts texts_after : Source) (out out_after err err_after : Intake) (status : ℕ) (report : Option Report) (name : List ℕ) (workers : Option ℕ) → form words ≡ Some (run workers name) → RunEnds name texts texts_after out out_after err err_after status report → IsCall (seen words texts texts_after out out_after err err_after status) report
+pub run-call-of : (words : List (List ℕ)) (texts texts_after : Source) (out out_after err err_after : Intake) (status : ℕ) (report : Option Report) (name : List ℕ) (workers : Option ℕ) → form words ≡ Some (run workers name) → RunEnds name workers texts texts_after out out_after err err_after status report → IsCall (seen words texts texts_after out out_after err err_after status) report
 run-call-of words texts texts_after out out_after err err_after status report name workers named ends =
-    rw named (run-call (seen words texts texts_after out out_after err err_after status) report name (workers, named) ends)
+    rw named (run-call (seen words texts texts_after out out_after err err_after status) report name workers named ends)
 
 pub check-is-call : (words : List (List ℕ)) (texts texts_after : Source) (out out_after err err_after : Intake) (status : ℕ) (report : Option Report) (name : List ℕ) → form words ≡ Some (check name) → CheckEnds name texts texts_after out out_after err err_after status → report ≡ None → IsCall (seen words texts texts_after out out_after err err_after status) report
 check-is-call words texts texts_after out out_after err err_after status report name named ends nothing =

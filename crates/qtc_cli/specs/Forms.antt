@@ -1,5 +1,5 @@
 -- The forms of the words that the program takes. (Own.)
-use Rattle.std.specs.Prelude.{ℕ, Bool, ◌&&◌, List, [], ◌∷◌, Option, Some, None, codes, if◌then◌else◌}
+use Rattle.std.specs.Prelude.{ℕ, ◌≤◌, Bool, ◌&&◌, List, [], ◌∷◌, Option, Some, None, codes, if◌then◌else◌}
 use Rattle.std.specs.Str.{bytes_eq}
 use Rattle.qtc_base.specs.Decimal.{number_of}
 use Rattle.qtc_job.specs.Limits.{most_workers}
@@ -9,6 +9,10 @@ use Rattle.qtc_job.specs.Literals.{is_numeral, is_within}
 pub data Form : Type 0 where
   run : Option ℕ → List ℕ → Form
   check : List ℕ → Form
+
+-- as many workers as a run may have
+abbrev pub IsCrew : ℕ → Type 0
+IsCrew number = (1 ≤ number) × (number ≤ most_workers)
 
 -- 1 to 10 digits for 1 to 32
 abbrev pub is_workers : List ℕ → Bool

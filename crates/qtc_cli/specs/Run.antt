@@ -1,5 +1,5 @@
 -- What a call that runs a job file comes to. (Own.)
-use Rattle.std.specs.Prelude.{◌≡◌, ◌≢◌, ◌⊎◌, ◌↔◌, ◌≤◌, ℕ, List, length, map, All, Option, Some, None, IsTrue, if◌then◌else◌}
+use Rattle.std.specs.Prelude.{◌≡◌, ◌≢◌, ◌⊎◌, ◌↔◌, ◌≤◌, ℕ, List, length, map, All, Option, Some, None, unwrap_or, IsTrue, if◌then◌else◌}
 use Rattle.qtc_base.specs.Items.{PassesLimit}
 use Rattle.qtc_outside.specs.Source.{Source, IsCalm}
 use Rattle.qtc_outside.specs.Intake.{Intake, Takes, IsCut}
@@ -13,7 +13,6 @@ use Rattle.qtc_job.specs.Lines.{lines_of}
 use Rattle.qtc_run.specs.Loaded.{most_text}
 use Rattle.qtc_run.specs.Reports.{IsOutput, has_failed}
 use Rattle.qtc_run.specs.Runnable.{are_runnable}
-use Rattle.qtc_run.specs.Sequential.{AreSequential}
 use Rattle.qtc_run.specs.Sources.{Texts, items_of_all}
 use Rattle.qtc_run.specs.declared.reports.Report.{Report}
 use Rattle.qtc_cli.specs.Answered.{IsDone, KeepsOutside, IsBadJob, HasNoFaults}
@@ -25,9 +24,16 @@ use Rattle.qtc_cli.specs.Seen.{Seen}
 use Rattle.qtc_cli.specs.declared.refusals.Refusal.{Refusal}
 use Rattle.qtc_cli.specs.declared.refusals.Refusal.TheVariants.{Bad, ReadFault, Memory, TooLarge, NotYet}
 
--- the words are run JOB, perhaps with a number of workers
+-- the words are run JOB, or run --workers N JOB
+abbrev pub AsksFor : Seen → Option ℕ → List ℕ → Type 0
+AsksFor call workers name = form call.words ≡ Some (run workers name)
+
 abbrev pub RunsFile : Seen → List ℕ → Type 0
-RunsFile call name = (workers : Option ℕ) × (form call.words ≡ Some (run workers name))
+RunsFile call name = (workers : Option ℕ) × AsksFor call workers name
+
+-- how many workers run a file: as many as the words say, else as many as the file says
+abbrev pub workers_of : Option ℕ → JobFile → ℕ
+workers_of words file = unwrap_or words file.workers
 
 -- a job file that reads as this one, of jobs that are all run so far, and the texts that it names were loaded; their
 -- items keep their limits
@@ -38,36 +44,35 @@ pub record Ran (name : List ℕ) (old : Source) (file : JobFile) (texts : Texts)
   pub texts_load : LoadsTexts (texts_named file) between texts new
   pub fits : ¬ PassesLimit (items_of_all texts file.jobs)
 
--- a report that a run of the file over the texts may make, in which each job has the sequential answer, and its text
-pub record IsReported (file : JobFile) (texts : Texts) (made : Report) (text : List ℕ) : Type 0 where
-  pub output : IsOutput file texts made text
-  pub sequential : AreSequential texts file.jobs made.jobs
+-- what was loaded under the name of a job file came to this report and this text, which are what a run by so many workers
+-- may print
+pub record IsRunOf (name : List ℕ) (workers : Option ℕ) (old : Source) (made : Report) (text : List ℕ) (new : Source) : Type 0 where
+  pub file : JobFile
+  pub texts : Texts
+  pub ran : Ran name old file texts new
+  pub output : IsOutput file (workers_of workers file) texts made text
+
+-- the words ask for a run, and this report of it and this text were formed
+pub record Reports (call : Seen) (report : Option Report) (made : Report) (text : List ℕ) : Type 0 where
+  pub name : List ℕ
+  pub workers : Option ℕ
+  pub named : AsksFor call workers name
+  pub run_is : IsRunOf name workers call.texts made text call.texts_after
+  pub report_is : report ≡ Some made
 
 -- a report was made and its text written; a job of it failed exactly where the status is 1
 pub record IsRun (call : Seen) (report : Option Report) : Type 0 where
-  pub name : List ℕ
-  pub named : RunsFile call name
-  pub file : JobFile
-  pub texts : Texts
-  pub ran : Ran name call.texts file texts call.texts_after
   pub made : Report
-  pub report_is : report ≡ Some made
   pub text : List ℕ
-  pub reported : IsReported file texts made text
+  pub reports : Reports call report made text
   pub writes : Takes call.out text call.out_after
   pub failed : (call.status ≡ 1) ↔ IsTrue (has_failed made)
 
 -- a report was made, and a front of its text was written, and not the whole
 pub record IsRunCut (call : Seen) (report : Option Report) : Type 0 where
-  pub name : List ℕ
-  pub named : RunsFile call name
-  pub file : JobFile
-  pub texts : Texts
-  pub ran : Ran name call.texts file texts call.texts_after
   pub made : Report
-  pub report_is : report ≡ Some made
   pub text : List ℕ
-  pub reported : IsReported file texts made text
+  pub reports : Reports call report made text
   pub taken : ℕ
   pub front : IsCut call.out text taken call.out_after
 
@@ -156,24 +161,17 @@ RunStops name old NotYet new = IsNotYet name old new
 RunStops name old Memory new = IsCalm old new
 RunStops name old _ new = ⊥
 
--- what a run formed: a report, and its text
-pub record Forms (name : List ℕ) (old : Source) (made : Report) (text : List ℕ) (new : Source) : Type 0 where
-  pub file : JobFile
-  pub texts : Texts
-  pub ran : Ran name old file texts new
-  pub reported : IsReported file texts made text
-
 -- 1 where a job failed
 abbrev pub done_status : Report → ℕ
 done_status made = if has_failed made then 1 else 0
 
 -- a report was formed and written; or none was formed, and nothing was written or called
-pub record WritesRun (name : List ℕ) (texts texts_after : Source) (out out_after err err_after : Intake) (status : ℕ)
+pub record WritesRun (name : List ℕ) (workers : Option ℕ) (texts texts_after : Source) (out out_after err err_after : Intake) (status : ℕ)
     (report : Option Report) : Type 0 where
   pub made : Report
   pub report_is : report ≡ Some made
   pub text : List ℕ
-  pub forms : Forms name texts made text texts_after
+  pub run_is : IsRunOf name workers texts made text texts_after
   pub writes : Writes text (done_status made) status out out_after err err_after
 
 pub record RefusesRun (name : List ℕ) (texts texts_after : Source) (out out_after err err_after : Intake) (status : ℕ)
@@ -184,8 +182,8 @@ pub record RefusesRun (name : List ℕ) (texts texts_after : Source) (out out_af
   pub untouched : out_after ≡ out
   pub no_report : report ≡ None
 
-abbrev pub RunEnds : (name : List ℕ) (texts texts_after : Source) (out out_after err err_after : Intake) (status : ℕ)
-    (report : Option Report) → Type 0
-RunEnds name texts texts_after out out_after err err_after status report =
-    WritesRun name texts texts_after out out_after err err_after status report
+abbrev pub RunEnds : (name : List ℕ) (workers : Option ℕ) (texts texts_after : Source) (out out_after err err_after : Intake)
+    (status : ℕ) (report : Option Report) → Type 0
+RunEnds name workers texts texts_after out out_after err err_after status report =
+    WritesRun name workers texts texts_after out out_after err err_after status report
     ⊎ RefusesRun name texts texts_after out out_after err err_after status report

@@ -39,8 +39,17 @@ fn main(rt: HostRuntime) -> ExitCode {
     let mut err = StdSink::new(&rt, true);
     let status = match words_of(&rt, alloc) {
         Ok(words) => {
-            let mut texts = FileTexts::new(rt);
-            run_words(alloc, &words, &mut texts, &mut out, &mut err, &NoGate).status
+            let mut texts = FileTexts::new(&rt);
+            run_words(
+                &rt,
+                alloc,
+                &words,
+                &mut texts,
+                &mut out,
+                &mut err,
+                &NoGate,
+            )
+            .status
         }
         Err(fault) => refuse(alloc, refusal_of(&fault), &mut err),
     };

@@ -1,6 +1,8 @@
-ghost use Rattle.std.specs.Prelude.{◌≡◌, None, map, string_bytes, IfOk, IfErr};
+ghost use Rattle.std.specs.Prelude.{◌≡◌, ◌≤◌, None, map, string_bytes, IfOk, IfErr, IfSome};
+ghost use Rattle.qtc_run.specs.Sums.{IsCountable};
 ghost use Rattle.qtc_cli.specs.Endings.{IsRefused};
-ghost use Rattle.qtc_cli.specs.Run.{Forms, RunStops, RunEnds, IsCall};
+ghost use Rattle.qtc_cli.specs.Forms.{IsCrew};
+ghost use Rattle.qtc_cli.specs.Run.{IsRunOf, RunStops, RunEnds, IsCall, workers_of};
 ghost use Rattle.qtc_cli.specs.Seen.{seen};
 
 use crate::check::check_named;
@@ -9,9 +11,12 @@ use crate::endings::{refuse, write_text};
 use crate::loads::{load_file, load_texts};
 use crate::refusals::Refusal;
 use qtc_base::Bytes;
+use qtc_job::JobFile;
 use qtc_outside::{Gate, Sink, Texts};
 use qtc_run::{Report, is_runnable, report_text, run_file};
 use std::alloc::Global;
+use std::sync::Wait;
+use std::thread::Threads;
 
 /// How a call of the program ended.
 #[derive(Drop)]
@@ -30,14 +35,29 @@ struct Formed {
     text: Bytes,
 }
 
-/// Loads the job file and the texts that it names, runs its jobs, and forms the report.
-fn form_run<T: Texts, G: Gate>(
+/// How many workers run a file: as many as the words say, else as many as the file says.
+fn workers_of(words: Option<u32>, file: &JobFile) -> u32
+    requires words { IfSome words IsCrew }
+    requires file { IsCountable file.now }
+    ensures is { result ≡ workers_of words file.now }
+    ensures few { IsCrew result }
+{
+    words.unwrap_or(file.workers)
+}
+
+/// Loads the job file and the texts that it names, runs its jobs by so many workers, or by as many as the file says, and
+/// forms the report.
+fn form_run<T: Texts, G: Gate, R: Threads + Wait + Sync>(
+    rt: &R,
     alloc: Global,
     name: &[u8],
+    workers: Option<u32>,
     texts: &mut T,
     gate: &G,
 ) -> Result<Formed, Refusal>
-    ensures ok { IfOk result (λ f. Forms name.now (T.source texts.old) f.report f.text (T.source texts.new)) }
+    requires { IfSome workers IsCrew }
+    ensures ok { IfOk result (λ f.
+        IsRunOf name.now workers (T.source texts.old) f.report f.text (T.source texts.new)) }
     ensures err { IfErr result (λ refusal. RunStops name.now (T.source texts.old) refusal (T.source texts.new)) }
 {
     let file = load_file(alloc, texts, name)?;
@@ -45,7 +65,8 @@ fn form_run<T: Texts, G: Gate>(
         return Err(Refusal::NotYet);
     }
     let loaded = load_texts(alloc, texts, &file)?;
-    let report = match run_file(alloc, &file, &loaded, gate) {
+    let workers = workers_of(workers, &file);
+    let report = match run_file(alloc, rt, &file, &loaded, workers, gate) {
         Ok(report) => report,
         Err(fault) => return Err(Refusal::from(fault)),
     };
@@ -53,19 +74,22 @@ fn form_run<T: Texts, G: Gate>(
     Ok(Formed { report, text })
 }
 
-/// Runs the job file under a name, and writes its report.
-fn run_named<T: Texts, S: Sink, E: Sink, G: Gate>(
+/// Runs the job file under a name by so many workers, or by as many as the file says, and writes its report.
+fn run_named<T: Texts, S: Sink, E: Sink, G: Gate, R: Threads + Wait + Sync>(
+    rt: &R,
     alloc: Global,
     name: &[u8],
+    workers: Option<u32>,
     texts: &mut T,
     out: &mut S,
     err: &mut E,
     gate: &G,
 ) -> Ended
-    ensures { RunEnds name.now (T.source texts.old) (T.source texts.new) (S.intake out.old) (S.intake out.new)
-        (E.intake err.old) (E.intake err.new) result.status result.report }
+    requires { IfSome workers IsCrew }
+    ensures { RunEnds name.now workers (T.source texts.old) (T.source texts.new) (S.intake out.old)
+        (S.intake out.new) (E.intake err.old) (E.intake err.new) result.status result.report }
 {
-    match form_run(alloc, name, texts, gate) {
+    match form_run(rt, alloc, name, workers, texts, gate) {
         Ok(formed) => {
             let done = if formed.report.has_failed() { 1 } else { 0 };
             Ended {
@@ -91,9 +115,11 @@ impl Ended {
 }
 
 /// Runs the words after the program's name: `run JOB` runs a job file over the texts that it names and writes the
-/// report of each job to `out`, `run --workers N JOB` the same, and `check JOB` is `check_words`. Where not all was
-/// written, one line to `err` says why; faults of `err` change nothing else.
-pub fn run_words<T: Texts, S: Sink, E: Sink, G: Gate>(
+/// report of each job to `out`, `run --workers N JOB` the same by N workers in the place of as many as the file says,
+/// and `check JOB` is `check_words`. Where not all was written, one line to `err` says why; faults of `err` change
+/// nothing else.
+pub fn run_words<T: Texts, S: Sink, E: Sink, G: Gate, R: Threads + Wait + Sync>(
+    rt: &R,
     alloc: Global,
     words: &[String],
     texts: &mut T,
@@ -112,7 +138,7 @@ pub fn run_words<T: Texts, S: Sink, E: Sink, G: Gate>(
             status: check_named(alloc, command.job, texts, out, err),
             report: None,
         },
-        Task::Run(_) => run_named(alloc, command.job, texts, out, err, gate),
+        Task::Run(workers) => run_named(rt, alloc, command.job, workers, texts, out, err, gate),
     }
 }
 

@@ -46,8 +46,8 @@ fn texts_of(
     Ok(texts)
 }
 
-struct Case {
-    words: &'static [&'static str],
+/// A job file with its texts, and what a call over them ends with and writes.
+struct Row {
     file: &'static [u8],
     texts: &'static [(&'static [u8], &'static [u8])],
     status: u8,
@@ -55,61 +55,75 @@ struct Case {
     err: &'static [u8],
 }
 
+/// The words of a call, and how it ends.
+struct Case {
+    words: &'static [&'static str],
+    row: Row,
+}
+
 const RUN: &[&str] = &["run", "j"];
 
 const CHECK: &[&str] = &["check", "j"];
 
-const CASES: &[Case] = &[
-    Case {
-        words: RUN,
+/// Runs, which end in the same way with every number of workers.
+const RUNS: &[Row] = &[
+    Row {
         file: b"job a\ninput lines t\nmap digest\n",
         texts: &[(b"t", b"abc\n\n")],
         status: 0,
         out: b"job a finished 2\nba7816bf8f01cfea414140de5dae2223b00361a396177a9cb410ff61f20015ad\ne3b0c44298fc1c149afbf4c8996fb92427ae41e4649b934ca495991b7852b855\n",
         err: b"",
     },
-    Case {
-        words: &["run", "--workers", "32", "j"],
+    Row {
         file: b"job a\ninput lines t\nmap same\nblocks 65536\n",
         texts: &[(b"t", b"a\nb\nc\nd\ne\n")],
         status: 0,
         out: b"job a finished 5\na\nb\nc\nd\ne\n",
         err: b"",
     },
-    Case {
-        words: RUN,
+    Row {
         file: b"job a\ninput lines t\nfilter contains x\nblocks 3\n",
         texts: &[(b"t", b"a\na\na\na\na\na\na\n")],
         status: 0,
         out: b"job a finished 0\n",
         err: b"",
     },
-    Case {
-        words: RUN,
+    Row {
         file: b"job a\ninput lines t\nfilter not contains a\n",
         texts: &[(b"t", b"a\nb\nab\nc")],
         status: 0,
         out: b"job a finished 2\nb\nc\n",
         err: b"",
     },
-    Case {
-        words: RUN,
+    Row {
         file: b"job a\ninput lines t\nmap number\n",
         texts: &[(b"t", b"1\nx")],
         status: 1,
         out: b"job a failed 1 x\n",
         err: b"",
     },
-    Case {
-        words: RUN,
+    Row {
         file: b"job a\ninput pieces 3 t\nmap length\n",
         texts: &[(b"t", b"abcdefg")],
         status: 0,
         out: b"job a finished 3\n3\n3\n1\n",
         err: b"",
     },
-    Case {
-        words: RUN,
+    Row {
+        file: b"job a\ninput lines t\nmap same\n",
+        texts: &[(b"t", b"")],
+        status: 0,
+        out: b"job a finished 0\n",
+        err: b"",
+    },
+    Row {
+        file: b"job a\ninput lines t\nmap same\n",
+        texts: &[(b"t", b"a\tb\\")],
+        status: 0,
+        out: b"job a finished 1\na\\x09b\\x5c\n",
+        err: b"",
+    },
+    Row {
         file: b"",
         texts: &[],
         status: 0,
@@ -117,113 +131,21 @@ const CASES: &[Case] = &[
         err: b"",
     },
     // Several jobs over texts of escaped names, one of them in two jobs, and a failure in the middle.
-    Case {
-        words: RUN,
+    Row {
         file: b"job a\ninput lines a\\x20b\nmap same\njob b\ninput lines a\\x20b\nmap number\njob c\ninput files t a\\x20b\nmap length\n",
         texts: &[(b"a b", b"\xff\\\n7\n"), (b"t", b"12345")],
         status: 1,
         out: b"job a finished 2\n\xff\\x5c\n7\njob b failed 0 \xff\\x5c\njob c finished 2\n5\n5\n",
         err: b"",
     },
-    Case {
-        words: CHECK,
-        file: SAME,
-        texts: &[],
-        status: 0,
-        out: b"workers 4\njob a\ninput lines t\nmap same\nblocks 16\npriority 0\n",
-        err: b"",
-    },
-    Case {
-        words: CHECK,
-        file: b"",
-        texts: &[],
-        status: 0,
-        out: b"workers 4\n",
-        err: b"",
-    },
-    Case {
-        words: &[],
-        file: SAME,
-        texts: &[],
-        status: 2,
-        out: b"",
-        err: USAGE,
-    },
-    Case {
-        words: &["run"],
-        file: SAME,
-        texts: &[],
-        status: 2,
-        out: b"",
-        err: USAGE,
-    },
-    Case {
-        words: &["run", "a", "b"],
-        file: SAME,
-        texts: &[],
-        status: 2,
-        out: b"",
-        err: USAGE,
-    },
-    Case {
-        words: &["run", "--workers", "0", "j"],
-        file: SAME,
-        texts: &[],
-        status: 2,
-        out: b"",
-        err: USAGE,
-    },
-    Case {
-        words: &["run", "--workers", "33", "j"],
-        file: SAME,
-        texts: &[],
-        status: 2,
-        out: b"",
-        err: USAGE,
-    },
-    Case {
-        words: &["run", "--workers", "4"],
-        file: SAME,
-        texts: &[],
-        status: 2,
-        out: b"",
-        err: USAGE,
-    },
-    Case {
-        words: &["sample", "0"],
-        file: SAME,
-        texts: &[],
-        status: 2,
-        out: b"",
-        err: USAGE,
-    },
-    Case {
-        words: RUN,
+    Row {
         file: b"job a\nfoo\ninput lines t\nmap same\n",
         texts: &[(b"t", b"")],
         status: 3,
         out: b"",
         err: b"qtc: bad job file: line 2 code 1\n",
     },
-    Case {
-        words: CHECK,
-        file: b"job a\n",
-        texts: &[],
-        status: 3,
-        out: b"",
-        err: b"qtc: bad job file: line 1 code 8\n",
-    },
-    Case {
-        words: RUN,
-        file: SAME,
-        texts: &[],
-        status: 4,
-        out: b"",
-        err: b"qtc: read fault\n",
-    },
-    // A job file may have any name.
-    Case {
-        words: &["run", "--workers"],
+    Row {
         file: SAME,
         texts: &[],
         status: 4,
@@ -231,29 +153,225 @@ const CASES: &[Case] = &[
         err: b"qtc: read fault\n",
     },
     // What isn't run so far is said before a text is asked for.
-    Case {
-        words: RUN,
+    Row {
         file: b"job a\ninput lines t\nmap same\nreduce count\n",
         texts: &[],
         status: 8,
         out: b"",
         err: b"qtc: not yet\n",
     },
+    // The number of workers that the file says.
+    Row {
+        file: b"workers 1\njob a\ninput lines t\nmap length\nblocks 1\n",
+        texts: &[(b"t", b"a\n\nbcd")],
+        status: 0,
+        out: b"job a finished 3\n1\n0\n3\n",
+        err: b"",
+    },
 ];
+
+const CASES: &[Case] = &[
+    Case {
+        words: CHECK,
+        row: Row {
+            file: SAME,
+            texts: &[],
+            status: 0,
+            out: b"workers 4\njob a\ninput lines t\nmap same\nblocks 16\npriority 0\n",
+            err: b"",
+        },
+    },
+    Case {
+        words: CHECK,
+        row: Row {
+            file: b"",
+            texts: &[],
+            status: 0,
+            out: b"workers 4\n",
+            err: b"",
+        },
+    },
+    Case {
+        words: &[],
+        row: Row {
+            file: SAME,
+            texts: &[],
+            status: 2,
+            out: b"",
+            err: USAGE,
+        },
+    },
+    Case {
+        words: &["run"],
+        row: Row {
+            file: SAME,
+            texts: &[],
+            status: 2,
+            out: b"",
+            err: USAGE,
+        },
+    },
+    Case {
+        words: &["run", "a", "b"],
+        row: Row {
+            file: SAME,
+            texts: &[],
+            status: 2,
+            out: b"",
+            err: USAGE,
+        },
+    },
+    Case {
+        words: &["run", "--workers", "0", "j"],
+        row: Row {
+            file: SAME,
+            texts: &[],
+            status: 2,
+            out: b"",
+            err: USAGE,
+        },
+    },
+    Case {
+        words: &["run", "--workers", "33", "j"],
+        row: Row {
+            file: SAME,
+            texts: &[],
+            status: 2,
+            out: b"",
+            err: USAGE,
+        },
+    },
+    Case {
+        words: &["run", "--workers", "4"],
+        row: Row {
+            file: SAME,
+            texts: &[],
+            status: 2,
+            out: b"",
+            err: USAGE,
+        },
+    },
+    Case {
+        words: &["sample", "0"],
+        row: Row {
+            file: SAME,
+            texts: &[],
+            status: 2,
+            out: b"",
+            err: USAGE,
+        },
+    },
+    Case {
+        words: CHECK,
+        row: Row {
+            file: b"job a\n",
+            texts: &[],
+            status: 3,
+            out: b"",
+            err: b"qtc: bad job file: line 1 code 8\n",
+        },
+    },
+    // A job file may have any name.
+    Case {
+        words: &["run", "--workers"],
+        row: Row {
+            file: SAME,
+            texts: &[],
+            status: 4,
+            out: b"",
+            err: b"qtc: read fault\n",
+        },
+    },
+];
+
+/// Whether a call with these words over the job file and its texts ends as it should.
+fn ends_as<R: Threads + Wait + Sync>(
+    rt: &R,
+    alloc: Global,
+    words: &[&str],
+    row: &Row,
+) -> Result<bool, Fail> {
+    let words = word_list(alloc, words)?;
+    let texts = texts_of(alloc, row.file, row.texts)?;
+    let mut texts = MemTexts::new(texts, 7, List::new(alloc));
+    let mut out = MemSink::new(alloc, 5, List::new(alloc));
+    let mut err = MemSink::new(alloc, 5, List::new(alloc));
+    let ended = run_words(rt, alloc, &words, &mut texts, &mut out, &mut err, &NoGate);
+    Ok(ended.status == row.status && out.text() == row.out && err.text() == row.err)
+}
 
 #[test]
 fn words_and_job_files_end_as_they_should(rt: HostRuntime) -> Result<(), Fail> {
-    let alloc = rt.alloc();
-    for case in CASES {
-        let words = word_list(alloc, case.words)?;
-        let texts = texts_of(alloc, case.file, case.texts)?;
-        let mut texts = MemTexts::new(texts, 7, List::new(alloc));
-        let mut out = MemSink::new(alloc, 5, List::new(alloc));
-        let mut err = MemSink::new(alloc, 5, List::new(alloc));
-        let ended = run_words(alloc, &words, &mut texts, &mut out, &mut err, &NoGate);
-        assert_eq!(rt; ended.status, case.status);
-        assert_eq!(rt; out.text(), case.out);
-        assert_eq!(rt; err.text(), case.err);
+    for (place, case) in CASES.iter().enumerate() {
+        assert!(rt; ends_as(&rt, rt.alloc(), case.words, &case.row)?, "case {place}");
+    }
+    Ok(())
+}
+
+#[test]
+fn runs_end_the_same_with_any_number_of_workers(rt: HostRuntime) -> Result<(), Fail> {
+    for words in [
+        RUN,
+        &["run", "--workers", "1", "j"],
+        &["run", "--workers", "4", "j"],
+        &["run", "--workers", "32", "j"],
+    ] {
+        for (place, row) in RUNS.iter().enumerate() {
+            assert!(rt; ends_as(&rt, rt.alloc(), words, row)?, "run {place}");
+        }
+    }
+    Ok(())
+}
+
+/// A text, and what is reported of it.
+#[derive(Drop)]
+struct Reported {
+    text: Vec<u8>,
+    report: Vec<u8>,
+}
+
+/// The numbers below a count, one a line; reported by a job that gives each, and by one that keeps those with a 7.
+fn numbers_below(alloc: Global, count: u32) -> Result<Reported, AllocError> {
+    let mut text = Vec::new(alloc);
+    let mut kept = Vec::new(alloc);
+    let mut number_kept = 0;
+    for number in 0..count {
+        let line = format!(in alloc; "{number}\n")?;
+        text.extend_from_slice(line.as_bytes())?;
+        if line.contains('7') {
+            kept.extend_from_slice(line.as_bytes())?;
+            number_kept += 1;
+        }
+    }
+    let mut report = Vec::new(alloc);
+    report.extend_from_slice(format!(in alloc; "job a finished {count}\n")?.as_bytes())?;
+    report.extend_from_slice(text.as_slice())?;
+    report.extend_from_slice(format!(in alloc; "job b finished {number_kept}\n")?.as_bytes())?;
+    report.extend_from_slice(kept.as_slice())?;
+    Ok(Reported { text, report })
+}
+
+/// Whether so many workers report the numbers below 500 as they should.
+fn reports_numbers<R: Threads + Wait + Sync>(
+    rt: &R,
+    alloc: Global,
+    workers: &str,
+) -> Result<bool, Fail> {
+    let file = b"job a\ninput lines t\nmap same\nblocks 1 3\njob b\ninput lines t\nfilter contains 7\nblocks 2\n";
+    let numbers = numbers_below(alloc, 500)?;
+    let words = word_list(alloc, &["run", "--workers", workers, "j"])?;
+    let texts = texts_of(alloc, file.as_slice(), &[(b"t".as_slice(), numbers.text.as_slice())])?;
+    let mut texts = MemTexts::new(texts, 4096, List::new(alloc));
+    let mut out = MemSink::new(alloc, 4096, List::new(alloc));
+    let mut err = MemSink::new(alloc, 100, List::new(alloc));
+    let ended = run_words(rt, alloc, &words, &mut texts, &mut out, &mut err, &NoGate);
+    Ok(ended.status == 0 && out.text() == numbers.report.as_slice())
+}
+
+#[test]
+fn many_blocks_are_reported_in_order(rt: HostRuntime) -> Result<(), Fail> {
+    for workers in ["1", "4", "32"] {
+        assert!(rt; reports_numbers(&rt, rt.alloc(), workers)?, "{workers} workers");
     }
     Ok(())
 }
@@ -276,7 +394,8 @@ fn a_check_takes_no_other_words(rt: HostRuntime) -> Result<(), Fail> {
 }
 
 /// Over a source and a sink that never fail there is no read fault and no write fault.
-fn run_surely(
+fn run_surely<R: Threads + Wait + Sync>(
+    rt: &R,
     alloc: Global,
     words: &[String],
     texts: &mut SureTexts,
@@ -285,7 +404,7 @@ fn run_surely(
 ) -> Ended
     ensures { (result.status ≢ 4) × (result.status ≢ 5) }
 {
-    run_words(alloc, words, texts, out, err, &NoGate)
+    run_words(rt, alloc, words, texts, out, err, &NoGate)
 }
 
 /// The calls of the jobs that were reported, one job after the other.
@@ -308,7 +427,7 @@ fn the_jobs_are_reported_in_order(rt: HostRuntime) -> Result<(), Fail> {
     let mut texts = SureTexts::new(texts);
     let mut out = SureSink::new(alloc, 1000)?;
     let mut err = SureSink::new(alloc, 0)?;
-    let ended = run_surely(alloc, &words, &mut texts, &mut out, &mut err);
+    let ended = run_surely(&rt, alloc, &words, &mut texts, &mut out, &mut err);
     assert_eq!(rt; ended.status, 1);
     assert_eq!(rt;
         calls_of(alloc, &ended)?.as_slice(),
@@ -327,7 +446,7 @@ fn a_fault_of_the_sink_leaves_a_front(rt: HostRuntime) -> Result<(), Fail> {
     assert_eq!(rt; fails.push(1), Ok(()));
     let mut out = MemSink::new(alloc, 4, fails);
     let mut err = MemSink::new(alloc, 100, List::new(alloc));
-    let ended = run_words(alloc, &words, &mut texts, &mut out, &mut err, &NoGate);
+    let ended = run_words(&rt, alloc, &words, &mut texts, &mut out, &mut err, &NoGate);
     assert_eq!(rt; ended.status, 5);
     assert_eq!(rt; calls_of(alloc, &ended)?.as_slice(), [0].as_slice());
     assert_eq!(rt; out.text(), b"job ".as_slice());
@@ -344,7 +463,7 @@ fn faults_of_the_error_sink_change_nothing(rt: HostRuntime) -> Result<(), Fail> 
     assert_eq!(rt; fails.push(1), Ok(()));
     let mut out = MemSink::new(alloc, 100, List::new(alloc));
     let mut err = MemSink::new(alloc, 5, fails);
-    let ended = run_words(alloc, &words, &mut texts, &mut out, &mut err, &NoGate);
+    let ended = run_words(&rt, alloc, &words, &mut texts, &mut out, &mut err, &NoGate);
     assert_eq!(rt; ended.status, 2);
     assert!(rt; ended.report.is_none());
     assert_eq!(rt; out.text(), b"".as_slice());
@@ -364,13 +483,18 @@ fn filled(alloc: Global, byte: u8, count: usize) -> Result<Bytes, NoMemory> {
 }
 
 /// How a run over this job file and these texts ends; 0 where it says what it should not.
-fn status_of_run(alloc: Global, file: &[u8], others: &[(&[u8], &[u8])]) -> Result<u8, Fail> {
+fn status_of_run<R: Threads + Wait + Sync>(
+    rt: &R,
+    alloc: Global,
+    file: &[u8],
+    others: &[(&[u8], &[u8])],
+) -> Result<u8, Fail> {
     let words = word_list(alloc, RUN)?;
     let texts = texts_of(alloc, file, others)?;
     let mut texts = MemTexts::new(texts, usize::MAX, List::new(alloc));
     let mut out = MemSink::new(alloc, usize::MAX, List::new(alloc));
     let mut err = MemSink::new(alloc, 100, List::new(alloc));
-    let ended = run_words(alloc, &words, &mut texts, &mut out, &mut err, &NoGate);
+    let ended = run_words(rt, alloc, &words, &mut texts, &mut out, &mut err, &NoGate);
     if ended.status == 7
         && (!out.text().is_empty() || err.text() != b"qtc: too large\n".as_slice())
     {
@@ -384,12 +508,12 @@ fn the_limits_of_a_job_file_and_a_text_are_kept(rt: HostRuntime) -> Result<(), F
     let alloc = rt.alloc();
     for (count, status) in [(1_048_576, 0), (1_048_577, 7)] {
         let file = filled(alloc, b'\n', count)?;
-        assert_eq!(rt; status_of_run(alloc, file.as_slice(), &[])?, status);
+        assert_eq!(rt; status_of_run(&rt, alloc, file.as_slice(), &[])?, status);
     }
     for (count, status) in [(67_108_864, 0), (67_108_865, 7)] {
         let text = filled(alloc, b'x', count)?;
         let texts = [(b"t".as_slice(), text.as_slice())];
-        assert_eq!(rt; status_of_run(alloc, SAME, &texts)?, status);
+        assert_eq!(rt; status_of_run(&rt, alloc, SAME, &texts)?, status);
     }
     Ok(())
 }
@@ -408,7 +532,7 @@ fn the_limit_of_all_texts_is_kept(rt: HostRuntime) -> Result<(), Fail> {
             (b"e", last),
         ];
         let file = b"job a\ninput files a b c d e\nmap length\n";
-        assert_eq!(rt; status_of_run(alloc, file.as_slice(), &texts)?, status);
+        assert_eq!(rt; status_of_run(&rt, alloc, file.as_slice(), &texts)?, status);
     }
     Ok(())
 }
@@ -420,7 +544,7 @@ fn a_text_of_two_jobs_counts_twice(rt: HostRuntime) -> Result<(), Fail> {
     for (count, status) in [(4_194_304, 0), (4_194_305, 7)] {
         let text = filled(alloc, b'\n', count)?;
         let texts = [(b"t".as_slice(), text.as_slice())];
-        assert_eq!(rt; status_of_run(alloc, file.as_slice(), &texts)?, status);
+        assert_eq!(rt; status_of_run(&rt, alloc, file.as_slice(), &texts)?, status);
     }
     Ok(())
 }

@@ -1,5 +1,6 @@
 -- A call of the form run.
 use Rattle.std.proofs.Common.{◌≡◌, ◌≢◌, ℕ, ◌+◌, ◌-◌, ◌<◌, ◌≤◌, List, [], ◌∷◌, ◌++◌, min, take, drop, Bool, true, false, cond, Option, Some, None, length, refl, sym, ap, ◌∙◌, inl, inr, arith}
+use Rattle.std.specs.List.{list_any}
 use Rattle.std.specs.Prelude.{◌↔◌, All, IfSome, IsTrue, map}
 use Rattle.std.proofs.lemmas.Bool.{true≢false}
 use Rattle.std.proofs.lemmas.Grind.{common_steps, flat_map-append}
@@ -13,21 +14,25 @@ use Rattle.qtc_outside.specs.declared.loading.LoadFault.TheVariants.{TooLong}
 use Rattle.qtc_job.specs.declared.jobs.JobFile.{JobFile}
 use Rattle.qtc_job.specs.Limits.{most_text as most_job_file}
 use Rattle.qtc_job.specs.declared.jobs.Job.{Job}
+use Rattle.qtc_kernel.specs.Workload.{bad_indexes}
 use Rattle.qtc_run.specs.Loaded.{most_text}
-use Rattle.qtc_run.specs.Reports.{has_failed}
+use Rattle.qtc_run.specs.Laws.{GoodJobsFinish}
+use Rattle.qtc_run.specs.Reports.{AreReports, IsReport, has_failed, is_unfinished}
 use Rattle.qtc_run.specs.Runnable.{are_runnable}
-use Rattle.qtc_run.specs.Sources.{Texts, items_of, items_of_all}
+use Rattle.qtc_run.specs.Sources.{Texts, items_of, items_of_all, work_of}
 use Rattle.qtc_run.specs.Sums.{items_up_to, RefusesRun as JobsStop}
+use Rattle.qtc_run.specs.declared.reports.JobReport.{JobReport}
 use Rattle.qtc_run.specs.declared.reports.Report.{Report}
 use Rattle.qtc_run.specs.declared.reports.RunFault.{RunFault}
 use Rattle.qtc_run.specs.declared.reports.RunFault.TheVariants.{TooLarge as ItemsTooLarge, Memory as RunMemory}
+use Rattle.qtc_future.specs.declared.replies.Outcome.TheVariants.{Values}
 use Rattle.qtc_cli.specs.Answered.{IsDone, IsBadJob, HasNoFaults}
 use Rattle.qtc_cli.specs.Check.{CheckEnds}
 use Rattle.qtc_cli.specs.Endings.{IsRefused, WritesAll, WritesFront}
 use Rattle.qtc_cli.specs.Forms.{form, run, check}
 use Rattle.qtc_cli.specs.Loads.{most_texts, LoadsFile, LoadsTexts, texts_named, name_of, bytes_of}
 use Rattle.qtc_cli.specs.Refusals.{run_refusal, status_of, line_of, Hears, SaysFor}
-use Rattle.qtc_cli.specs.Run.{AsksFor, RunsFile, Ran, IsRunOf, IsTextRefused, IsReadFault, HasManyItems, IsTooLarge, IsNotYet, CanRun, RunsAsSaid, IsCall, RunStops, done_status, RunEnds}
+use Rattle.qtc_cli.specs.Run.{AreGood, AsksFor, RunsFile, Ran, IsRunOf, IsTextRefused, IsReadFault, HasManyItems, IsTooLarge, IsNotYet, CanRun, RunsAsSaid, IsCall, RunStops, done_status, RunEnds}
 use Rattle.qtc_cli.specs.Seen.{Seen, seen}
 use Rattle.qtc_cli.specs.declared.refusals.Refusal.{Refusal}
 use Rattle.qtc_cli.specs.declared.refusals.Refusal.TheVariants.{Usage, Bad, ReadFault, WriteFault, Memory, TooLarge, NotYet}
@@ -227,6 +232,29 @@ run-complete call can NotYet stops none =
     let same = file-same call.texts call.texts_after can.name can.text can.file stops.file can.held can.reads stops.file_loads in
     absurd (stops.unready (rw (sym same) at can.runnable))
 
+-- ---- a run over good items has no failed job
+
+ended-well : (job : JobReport) (values : List (List ℕ)) → job.ended ≡ Values values → is_unfinished job.ended ≡ false
+ended-well job values is = rw is refl
+
+none-failed : GoodJobsFinish → (texts : Texts) (jobs : List Job) (reports : List JobReport) → AreReports texts jobs reports → AreGood texts jobs → list_any (λ job. is_unfinished job.ended) reports ≡ false
+none-failed law texts [] [] each good = refl
+none-failed law texts [] (report ∷ reports) each good = absurd each
+none-failed law texts (job ∷ jobs) [] each good = absurd each
+none-failed law texts (job ∷ jobs) (report ∷ reports) each good =
+    let here = All-head (λ (j : Job). bad_indexes (work_of texts j) ≡ []) job jobs good in
+    let there = All-tail (λ (j : Job). bad_indexes (work_of texts j) ≡ []) job jobs good in
+    let ended = ended-well report _ (law job (work_of texts job) report each.0 here) in
+    rw (ended, none-failed law texts jobs reports each.1 there) refl
+
+-- the file and the texts of a run are those that the source tells
+run-good : GoodJobsFinish → (call : Seen) (can : CanRun call) (workers : Option ℕ) (made : Report) (text : List ℕ) → IsRunOf can.name workers call.texts made text call.texts_after → AreGood can.texts can.file.jobs → has_failed made ≡ false
+run-good law call can workers made text is good =
+    let same = file-same call.texts is.ran.between can.name can.text can.file is.file can.held can.reads is.ran.file_loads in
+    let calm = is.ran.file_loads.loads.calm in
+    let texts = texts-same call.texts is.texts can.texts (is.ran.texts_load.under ∙ (ap texts_named same ∙ sym can.under)) (rw calm.held at is.ran.texts_load.told) can.told in
+    none-failed law can.texts can.file.jobs made.jobs (rw (same, texts) at is.output.reports) good
+
 -- ---- whole calls
 
 ran-calm : (name : List ℕ) (old new : Source) (file : JobFile) (texts : Texts) → Ran name old file texts new → IsCalm old new
@@ -247,6 +275,7 @@ run-refused call report name said named stops is hears same nothing =
       complete = λ can none.
           let same_name = run-name call.words can.name name can.named.0 named.0 can.named.1 named.1 in
           inr (is ∙ run-complete call can said (rw (sym same_name) at stops) none);
+      good = λ can good one. not-done call.status said is (inr one);
       no_report = λ _ _. nothing;
       outside = keeps-refused call said is hears same (λ away. run-calm name call.texts call.texts_after said stops (λ four. away (is ∙ four)));
     }
@@ -266,8 +295,8 @@ done-low status done =
       | inr one ↦ omega arith
     ]
 
-run-written : (call : Seen) (report : Option Report) (name : List ℕ) (workers : Option ℕ) (made : Report) (text : List ℕ) → AsksFor call workers name → report ≡ Some made → IsRunOf name workers call.texts made text call.texts_after → WritesAll text (done_status made) call.status call.out call.out_after call.err call.err_after → RunsAsSaid call report
-run-written call report name workers made text named report_is run_is w =
+run-written : GoodJobsFinish → (call : Seen) (report : Option Report) (name : List ℕ) (workers : Option ℕ) (made : Report) (text : List ℕ) → AsksFor call workers name → report ≡ Some made → IsRunOf name workers call.texts made text call.texts_after → WritesAll text (done_status made) call.status call.out call.out_after call.err call.err_after → RunsAsSaid call report
+run-written law call report name workers made text named report_is run_is w =
     let done = is-done (has_failed made) call.status w.status_is in
     let low = done-low call.status done in
     record {
@@ -286,6 +315,10 @@ run-written call report name workers made text named report_is run_is w =
       not_yet = λ eight. absurd (omega arith);
       only = omega arith;
       complete = λ can none. inl done;
+      good = λ can good one.
+          let same_name = run-name call.words can.name name can.named.0 workers can.named.1 named in
+          let none = run-good law call can workers made text (rw (sym same_name) at run_is) good in
+          true≢false (sym ((one-where (has_failed made) call.status w.status_is).0 one) ∙ none);
       no_report = λ away _. absurd (away done);
       outside = keeps-done call done w.quiet (ran-calm name call.texts call.texts_after run_is.file run_is.texts run_is.ran);
     }
@@ -309,15 +342,16 @@ run-cut call report name workers made text named report_is run_is w =
       not_yet = λ eight. absurd (omega arith);
       only = omega arith;
       complete = λ can none. absurd (none.out w.cut.rose);
+      good = λ can good one. not-done call.status WriteFault five (inr one);
       no_report = λ _ away. absurd (away five);
       outside = keeps-cut call five w.hears (ran-calm name call.texts call.texts_after run_is.file run_is.texts run_is.ran);
     }
 
-run-call : (call : Seen) (report : Option Report) (name : List ℕ) (workers : Option ℕ) → AsksFor call workers name → RunEnds name workers call.texts call.texts_after call.out call.out_after call.err call.err_after call.status report → RunsAsSaid call report
-run-call call report name workers named ends =
+run-call : GoodJobsFinish → (call : Seen) (report : Option Report) (name : List ℕ) (workers : Option ℕ) → AsksFor call workers name → RunEnds name workers call.texts call.texts_after call.out call.out_after call.err call.err_after call.status report → RunsAsSaid call report
+run-call law call report name workers named ends =
     elim ends [
       | inl written ↦ elim written.writes [
-        | inl all ↦ run-written call report name workers written.made written.text named written.report_is written.run_is all
+        | inl all ↦ run-written law call report name workers written.made written.text named written.report_is written.run_is all
         | inr front ↦ run-cut call report name workers written.made written.text named written.report_is written.run_is front
       ]
       | inr refused ↦ run-refused call report name refused.refused.said (workers, named) (run-said name call.texts call.texts_after refused.refusal refused.refused.said refused.stops refused.refused.stands) refused.refused.status_is refused.refused.hears refused.untouched refused.no_report
@@ -337,15 +371,16 @@ usage-call call report unnamed refused same_texts same_out nothing =
       not_yet = λ eight. absurd (omega arith);
       only = omega arith;
       complete = λ can none. absurd (let n = can.named.1 in cc);
+      good = λ can good one. not-done call.status Usage is (inr one);
       no_report = λ _ _. nothing;
       outside = keeps-refused call Usage is (rw said at refused.hears) same_out (λ _. rw same_texts (calm-same call.texts));
     }
 
 -- ---- the same, with what is seen of a call given one by one
 
-pub run-call-of : (words : List (List ℕ)) (texts texts_after : Source) (out out_after err err_after : Intake) (status : ℕ) (report : Option Report) (name : List ℕ) (workers : Option ℕ) → form words ≡ Some (run workers name) → RunEnds name workers texts texts_after out out_after err err_after status report → IsCall (seen words texts texts_after out out_after err err_after status) report
-run-call-of words texts texts_after out out_after err err_after status report name workers named ends =
-    rw named (run-call (seen words texts texts_after out out_after err err_after status) report name workers named ends)
+pub run-call-of : GoodJobsFinish → (words : List (List ℕ)) (texts texts_after : Source) (out out_after err err_after : Intake) (status : ℕ) (report : Option Report) (name : List ℕ) (workers : Option ℕ) → form words ≡ Some (run workers name) → RunEnds name workers texts texts_after out out_after err err_after status report → IsCall (seen words texts texts_after out out_after err err_after status) report
+run-call-of law words texts texts_after out out_after err err_after status report name workers named ends =
+    rw named (run-call law (seen words texts texts_after out out_after err err_after status) report name workers named ends)
 
 pub check-is-call : (words : List (List ℕ)) (texts texts_after : Source) (out out_after err err_after : Intake) (status : ℕ) (report : Option Report) (name : List ℕ) → form words ≡ Some (check name) → CheckEnds name texts texts_after out out_after err err_after status → report ≡ None → IsCall (seen words texts texts_after out out_after err err_after status) report
 check-is-call words texts texts_after out out_after err err_after status report name named ends nothing =

@@ -1,19 +1,21 @@
 -- What a call that runs a job file comes to. (Own.)
-use Rattle.std.specs.Prelude.{◌≡◌, ◌≢◌, ◌⊎◌, ◌↔◌, ◌≤◌, ℕ, List, length, map, All, Option, Some, None, unwrap_or, IsTrue, if◌then◌else◌}
+use Rattle.std.specs.Prelude.{◌≡◌, ◌≢◌, ◌⊎◌, ◌↔◌, ◌≤◌, ℕ, List, [], length, map, All, Option, Some, None, unwrap_or, IsTrue, if◌then◌else◌}
 use Rattle.qtc_base.specs.Items.{PassesLimit}
 use Rattle.qtc_outside.specs.Source.{Source, IsCalm}
 use Rattle.qtc_outside.specs.Intake.{Intake, Takes, IsCut}
 use Rattle.qtc_outside.specs.Loading.{FailsToLoad, IsTooLong}
 use Rattle.qtc_outside.specs.declared.loading.LoadFault.{LoadFault}
 use Rattle.qtc_outside.specs.declared.loading.LoadFault.TheVariants.{Read, TooLong}
+use Rattle.qtc_job.specs.declared.jobs.Job.{Job}
 use Rattle.qtc_job.specs.declared.jobs.JobFile.{JobFile}
 use Rattle.qtc_job.specs.Grammar.{Reads}
 use Rattle.qtc_job.specs.Limits.{most_text as most_job_file}
 use Rattle.qtc_job.specs.Lines.{lines_of}
+use Rattle.qtc_kernel.specs.Workload.{bad_indexes}
 use Rattle.qtc_run.specs.Loaded.{most_text}
 use Rattle.qtc_run.specs.Reports.{IsOutput, has_failed}
 use Rattle.qtc_run.specs.Runnable.{are_runnable}
-use Rattle.qtc_run.specs.Sources.{Texts, items_of_all}
+use Rattle.qtc_run.specs.Sources.{Texts, items_of_all, work_of}
 use Rattle.qtc_run.specs.declared.reports.Report.{Report}
 use Rattle.qtc_cli.specs.Answered.{IsDone, KeepsOutside, IsBadJob, HasNoFaults}
 use Rattle.qtc_cli.specs.Check.{IsCheck}
@@ -127,6 +129,10 @@ pub record CanRun (call : Seen) : Type 0 where
   pub few : bytes_of texts ≤ most_texts
   pub fits : ¬ PassesLimit (items_of_all texts file.jobs)
 
+-- no item of these jobs is bad
+abbrev pub AreGood : Texts → List Job → Type 0
+AreGood texts jobs = All (λ (job : Job). bad_indexes (work_of texts job) ≡ []) jobs
+
 -- what a call of the form run, or of none, comes to
 pub record RunsAsSaid (call : Seen) (report : Option Report) : Type 0 where
   pub finished : IsDone call.status → IsRun call report
@@ -138,6 +144,7 @@ pub record RunsAsSaid (call : Seen) (report : Option Report) : Type 0 where
   pub not_yet : call.status ≡ 8 → (name : List ℕ) × RunsFile call name × IsNotYet name call.texts call.texts_after
   pub only : call.status ≤ 8
   pub complete : CanRun call → HasNoFaults call → IsDone call.status ⊎ (call.status ≡ 6)
+  pub good : (can : CanRun call) → AreGood can.texts can.file.jobs → call.status ≢ 1
   pub no_report : (IsDone call.status → ⊥) → call.status ≢ 5 → report ≡ None
   pub outside : KeepsOutside call
 

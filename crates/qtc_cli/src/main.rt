@@ -40,16 +40,7 @@ fn main(rt: HostRuntime) -> ExitCode {
     let status = match words_of(&rt, alloc) {
         Ok(words) => {
             let mut texts = FileTexts::new(&rt);
-            run_words(
-                &rt,
-                alloc,
-                &words,
-                &mut texts,
-                &mut out,
-                &mut err,
-                &NoGate,
-            )
-            .status
+            run_words(&rt, alloc, &words, &mut texts, &mut out, &mut err, &NoGate).status
         }
         Err(fault) => refuse(alloc, refusal_of(&fault), &mut err),
     };

@@ -13,7 +13,7 @@ use crate::refusals::Refusal;
 use qtc_base::Bytes;
 use qtc_job::JobFile;
 use qtc_outside::{Gate, Sink, Texts};
-use qtc_run::{Report, is_runnable, report_text, run_file};
+use qtc_run::{Report, good_jobs_finish, is_runnable, report_text, run_file};
 use std::alloc::Global;
 use std::sync::Wait;
 use std::thread::Threads;
@@ -138,7 +138,11 @@ pub fn run_words<T: Texts, S: Sink, E: Sink, G: Gate, R: Threads + Wait + Sync>(
             status: check_named(alloc, command.job, texts, out, err),
             report: None,
         },
-        Task::Run(workers) => run_named(rt, alloc, command.job, workers, texts, out, err, gate),
+        Task::Run(workers) => {
+            // The proof has from this law that no job over good items fails.
+            good_jobs_finish();
+            run_named(rt, alloc, command.job, workers, texts, out, err, gate)
+        }
     }
 }
 

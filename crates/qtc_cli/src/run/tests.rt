@@ -303,7 +303,10 @@ fn ends_as<R: Threads + Wait + Sync>(
 #[test]
 fn words_and_job_files_end_as_they_should(rt: HostRuntime) -> Result<(), Fail> {
     for (place, case) in CASES.iter().enumerate() {
-        assert!(rt; ends_as(&rt, rt.alloc(), case.words, &case.row)?, "case {place}");
+        assert!(rt;
+            ends_as(&rt, rt.alloc(), case.words, &case.row)?,
+            "case {place}"
+        );
     }
     Ok(())
 }
@@ -357,10 +360,15 @@ fn reports_numbers<R: Threads + Wait + Sync>(
     alloc: Global,
     workers: &str,
 ) -> Result<bool, Fail> {
-    let file = b"job a\ninput lines t\nmap same\nblocks 1 3\njob b\ninput lines t\nfilter contains 7\nblocks 2\n";
+    let file =
+        b"job a\ninput lines t\nmap same\nblocks 1 3\njob b\ninput lines t\nfilter contains 7\nblocks 2\n";
     let numbers = numbers_below(alloc, 500)?;
     let words = word_list(alloc, &["run", "--workers", workers, "j"])?;
-    let texts = texts_of(alloc, file.as_slice(), &[(b"t".as_slice(), numbers.text.as_slice())])?;
+    let texts = texts_of(
+        alloc,
+        file.as_slice(),
+        &[(b"t".as_slice(), numbers.text.as_slice())],
+    )?;
     let mut texts = MemTexts::new(texts, 4096, List::new(alloc));
     let mut out = MemSink::new(alloc, 4096, List::new(alloc));
     let mut err = MemSink::new(alloc, 100, List::new(alloc));
@@ -371,7 +379,10 @@ fn reports_numbers<R: Threads + Wait + Sync>(
 #[test]
 fn many_blocks_are_reported_in_order(rt: HostRuntime) -> Result<(), Fail> {
     for workers in ["1", "4", "32"] {
-        assert!(rt; reports_numbers(&rt, rt.alloc(), workers)?, "{workers} workers");
+        assert!(rt;
+            reports_numbers(&rt, rt.alloc(), workers)?,
+            "{workers} workers"
+        );
     }
     Ok(())
 }

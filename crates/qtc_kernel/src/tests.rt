@@ -2,6 +2,8 @@ ghost use Rattle.std.specs.Prelude.{IsTrue};
 ghost use Rattle.qtc_kernel.specs.Driving.{AreSizes};
 ghost use Rattle.qtc_ops.specs.ItemValue.{kept};
 
+mod engines;
+
 use crate::{Kind, run_one};
 use qtc_base::{Bytes, Items, List, NoMemory};
 use qtc_events::{Call, Entry, Reached};

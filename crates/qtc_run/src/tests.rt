@@ -359,18 +359,19 @@ fn blocks_are_reported_in_turn(rt: HostRuntime) -> Result<(), Fail> {
     let file = b"job a\ninput lines t\nfilter longer 0\nblocks 2 1\n";
     let texts = [(b"t".as_slice(), b"a\nb\n\nc\nd".as_slice())];
     let (report, _) = run(&rt, rt.alloc(), file.as_slice(), &texts, 1, &NoGate)?;
-    let entry = |call| Entry {
-        caller: 0,
+    let entry = |caller, call| Entry {
+        caller,
         call,
         reached: Reached::Nothing,
     };
-    let block = |begin, kept, total| entry(Call::Report { begin, kept, total });
+    // Number 0 is the pass of the only worker; the next reports for all workers.
+    let block = |begin, kept, total| entry(1, Call::Report { begin, kept, total });
     let want = [
-        entry(Call::Start),
+        entry(0, Call::Start),
         block(0, 2, 2),
         block(2, 0, 1),
         block(3, 2, 2),
-        entry(Call::Finish),
+        entry(0, Call::Finish),
     ];
     for job in report.jobs.as_slice() {
         assert_eq!(rt; job.journal.as_slice(), want.as_slice());

@@ -326,35 +326,28 @@ fn runs_end_the_same_with_any_number_of_workers(rt: HostRuntime) -> Result<(), F
     Ok(())
 }
 
-/// A text, and what is reported of it.
-#[derive(Drop)]
-struct Reported {
-    text: Vec<u8>,
-    report: Vec<u8>,
-}
-
-/// The numbers below a count, one a line; reported by a job that gives each, and by one that keeps those with a 7.
-fn numbers_below(alloc: Global, count: u32) -> Result<Reported, AllocError> {
-    let mut text = Vec::new(alloc);
-    let mut kept = Vec::new(alloc);
-    let mut number_kept = 0;
+/// The numbers below a count whose digits have these among them.
+fn numbers_below(alloc: Global, count: u32, digits: &str) -> Result<Vec<String>, AllocError> {
+    let mut numbers = Vec::new(alloc);
     for number in 0..count {
-        let line = format!(in alloc; "{number}\n")?;
-        text.extend_from_slice(line.as_bytes())?;
-        if line.contains('7') {
-            kept.extend_from_slice(line.as_bytes())?;
-            number_kept += 1;
+        let text = format!(in alloc; "{number}")?;
+        if text.contains(digits) {
+            numbers.push(text)?;
         }
     }
-    let mut report = Vec::new(alloc);
-    report.extend_from_slice(format!(in alloc; "job a finished {count}\n")?.as_bytes())?;
-    report.extend_from_slice(text.as_slice())?;
-    report.extend_from_slice(format!(in alloc; "job b finished {number_kept}\n")?.as_bytes())?;
-    report.extend_from_slice(kept.as_slice())?;
-    Ok(Reported { text, report })
+    Ok(numbers)
 }
 
-/// Whether so many workers report the numbers below 500 as they should.
+/// Appends each value on a line.
+fn append_lines(text: &mut Vec<u8>, values: &[String]) -> Result<(), AllocError> {
+    for value in values {
+        text.extend_from_slice(value.as_bytes())?;
+        text.extend_from_slice(b"\n")?;
+    }
+    Ok(())
+}
+
+/// Whether so many workers report the numbers below 500, and those with a 7, as they should.
 fn reports_numbers<R: Threads + Wait + Sync>(
     rt: &R,
     alloc: Global,
@@ -362,18 +355,24 @@ fn reports_numbers<R: Threads + Wait + Sync>(
 ) -> Result<bool, Fail> {
     let file =
         b"job a\ninput lines t\nmap same\nblocks 1 3\njob b\ninput lines t\nfilter contains 7\nblocks 2\n";
-    let numbers = numbers_below(alloc, 500)?;
+    let all = numbers_below(alloc, 500, "")?;
+    let mut text = Vec::new(alloc);
+    append_lines(&mut text, all.as_slice())?;
+    let mut want = Vec::from_slice(alloc, b"job a finished 500\n")?;
+    append_lines(&mut want, all.as_slice())?;
+    want.extend_from_slice(b"job b finished 95\n")?;
+    append_lines(&mut want, numbers_below(alloc, 500, "7")?.as_slice())?;
     let words = word_list(alloc, &["run", "--workers", workers, "j"])?;
     let texts = texts_of(
         alloc,
         file.as_slice(),
-        &[(b"t".as_slice(), numbers.text.as_slice())],
+        &[(b"t".as_slice(), text.as_slice())],
     )?;
     let mut texts = MemTexts::new(texts, 4096, List::new(alloc));
     let mut out = MemSink::new(alloc, 4096, List::new(alloc));
     let mut err = MemSink::new(alloc, 100, List::new(alloc));
     let ended = run_words(rt, alloc, &words, &mut texts, &mut out, &mut err, &NoGate);
-    Ok(ended.status == 0 && out.text() == numbers.report.as_slice())
+    Ok(ended.status == 0 && out.text() == want.as_slice())
 }
 
 #[test]
@@ -551,7 +550,8 @@ fn the_limit_of_all_texts_is_kept(rt: HostRuntime) -> Result<(), Fail> {
 #[test]
 fn a_text_of_two_jobs_counts_twice(rt: HostRuntime) -> Result<(), Fail> {
     let alloc = rt.alloc();
-    let file = b"job a\ninput lines t\nfilter longer 0\njob b\ninput lines t\nfilter longer 0\n";
+    let file =
+        b"job a\ninput lines t\nfilter longer 0\nblocks 65536\njob b\ninput lines t\nfilter longer 0\nblocks 65536\n";
     for (count, status) in [(4_194_304, 0), (4_194_305, 7)] {
         let text = filled(alloc, b'\n', count)?;
         let texts = [(b"t".as_slice(), text.as_slice())];

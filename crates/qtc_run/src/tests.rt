@@ -13,6 +13,7 @@ use qtc_events::{Call, Entry, Event, Reached};
 use qtc_future::Outcome;
 use qtc_job::{Job, JobFile, parse};
 use qtc_outside::{Gate, NoGate};
+use qtc_pool_core::PoolEntry;
 use std::alloc::Global;
 use std::process::Abort;
 use std::sync::Wait;
@@ -316,7 +317,7 @@ fn a_later_job_of_higher_priority_is_entered_first(rt: HostRuntime) -> Result<()
     Ok(())
 }
 
-const MOST_TURNS: u32 = 100_000_000;
+const MOST_TURNS: u32 = 10_000_000;
 
 // Holds index 0 until index 1 has entered, for at most `MOST_TURNS` turns; then it is late.
 #[derive(Drop)]
@@ -377,6 +378,26 @@ fn blocks_are_reported_in_turn(rt: HostRuntime) -> Result<(), Fail> {
         assert_eq!(rt; job.journal.as_slice(), want.as_slice());
         assert!(rt; job.events.is_empty());
     }
+    Ok(())
+}
+
+#[test]
+fn the_pool_tells_each_task_by_its_job(rt: HostRuntime) -> Result<(), Fail> {
+    let file = b"job a\ninput lines t\nmap same\njob b\ninput lines t\nmap same\npriority 1\n";
+    let texts = [(b"t".as_slice(), b"a\n".as_slice())];
+    let (report, _) = run(&rt, rt.alloc(), file.as_slice(), &texts, 1, &NoGate)?;
+    let want = [
+        PoolEntry::Started { id: 0, priority: 0 },
+        PoolEntry::Started {
+            id: 32,
+            priority: 1,
+        },
+        PoolEntry::Took { id: 32 },
+        PoolEntry::Done { id: 32 },
+        PoolEntry::Took { id: 0 },
+        PoolEntry::Done { id: 0 },
+    ];
+    assert_eq!(rt; report.pool.as_slice(), want.as_slice());
     Ok(())
 }
 

@@ -116,13 +116,8 @@ fn items_of(alloc: Global, input: &Input, t: &[u8], u: &[u8]) -> Result<Items, F
             }
         }
         _ => {
-            let mut rest = t;
-            while let [a, b, c, others @ ..] = rest {
-                items.push(&[*a, *b, *c])?;
-                rest = others;
-            }
-            if !rest.is_empty() {
-                items.push(rest)?;
+            for piece in t.chunks(3) {
+                items.push(piece)?;
             }
         }
     }

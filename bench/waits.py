@@ -1,7 +1,7 @@
 #!/usr/bin/env python3
-"""Reads how much processor time a program takes in which a thread waits for one second.
+"""Reads how much processor time a program takes in which a thread, or 32 workers of a pool, wait for one second.
 
-    bench/waits.py [WHAT ..]     all waits where none is named: lock, bell
+    bench/waits.py [WHAT ..]     all waits where none is named: lock, bell, resume, pause, finish, result, pool
 
 Each row has how long the thread waited, as `qtc_bench wait WHAT` prints it, and the processor time of that whole process,
 the least and the greatest of five runs: its start, its end and its other thread included. Build the program first, by
@@ -14,7 +14,7 @@ import sys
 from lines import RUNS, TOP
 
 BENCH = str(TOP / "crates/qtc_bench/out/qtc_bench")
-WAITS = ["lock", "bell"]
+WAITS = ["lock", "bell", "resume", "pause", "finish", "result", "pool"]
 
 
 def wait_once(what):

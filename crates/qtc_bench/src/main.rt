@@ -3,17 +3,28 @@
 
 use claims::print_claims;
 use digests::print_digests;
+use future_waits::{Waiting, print_future_wait};
+use futures::print_futures;
 use locks::print_locks;
 use operations::print_operations;
+use pools::{print_pool_wait, print_pools};
+use std::alloc::Global;
 use std::process::ExitCode;
+use std::rt::Clock;
+use std::sync::Wait;
+use std::thread::Threads;
 use std::{env, io};
 use stores::{Order, print_filled, print_stores};
 use waits::{print_bell_wait, print_lock_wait};
 
+mod callers;
 mod claims;
 mod digests;
+mod future_waits;
+mod futures;
 mod locks;
 mod operations;
+mod pools;
 mod stores;
 mod tables;
 mod texts;
@@ -28,8 +39,59 @@ usage: qtc_bench ops    the operations of jobs over 1000000 lines, ns an item
        qtc_bench store  a store of results, ns for an add and a get
        qtc_bench fill ascending|descending|shuffled    1000000 batches in a store
        qtc_bench claim  claims of 16 indexes beside a bare word, ns for a claim
-       qtc_bench wait lock|bell    a thread that waits for a second, ms
+       qtc_bench future a shared future beside std's lock round its core, ns for a call
+       qtc_bench pool   tasks through a pool beside std's queue under its lock, ns a task
+       qtc_bench wait lock|bell|resume|pause|finish|result|pool    who waits for a second, ms
 ";
+
+/// Waits in the way of that name: whether there is one.
+fn wait_by<R: Wait + Threads + Sync + Clock + Print>(
+    rt: &R,
+    alloc: Global,
+    name: &str,
+) -> io::Result<bool> {
+    match name {
+        "lock" => print_lock_wait(rt, alloc)?,
+        "bell" => print_bell_wait(rt, alloc)?,
+        "resume" => print_future_wait(rt, alloc, Waiting::Resume)?,
+        "pause" => print_future_wait(rt, alloc, Waiting::Pause)?,
+        "finish" => print_future_wait(rt, alloc, Waiting::Finish)?,
+        "result" => print_future_wait(rt, alloc, Waiting::Result)?,
+        "pool" => print_pool_wait(rt, alloc)?,
+        _ => return Ok(false),
+    }
+    Ok(true)
+}
+
+/// Fills a store in the order of that name: whether there is one.
+fn fill_by<R: Print>(rt: &R, alloc: Global, name: &str) -> io::Result<bool> {
+    match name {
+        "ascending" => print_filled(rt, alloc, Order::Ascending)?,
+        "descending" => print_filled(rt, alloc, Order::Descending)?,
+        "shuffled" => print_filled(rt, alloc, Order::Shuffled)?,
+        _ => return Ok(false),
+    }
+    Ok(true)
+}
+
+/// Measures the calls of that name: whether there are any.
+fn measure<R: Wait + Threads + Sync + Clock + Print>(
+    rt: &R,
+    alloc: Global,
+    name: &str,
+) -> io::Result<bool> {
+    match name {
+        "ops" => print_operations(rt, alloc)?,
+        "digest" => print_digests(rt, alloc)?,
+        "lock" => print_locks(rt, alloc)?,
+        "store" => print_stores(rt, alloc)?,
+        "claim" => print_claims(rt, alloc)?,
+        "future" => print_futures(rt, alloc)?,
+        "pool" => print_pools(rt, alloc)?,
+        _ => return Ok(false),
+    }
+    Ok(true)
+}
 
 fn main(rt: HostRuntime) -> io::Result<ExitCode> {
     let alloc = rt.alloc();
@@ -39,22 +101,16 @@ fn main(rt: HostRuntime) -> io::Result<ExitCode> {
         return Ok(ExitCode::SUCCESS);
     };
     let second = words.next();
-    let order = second.as_ref().map(|word| word.as_str());
-    match (word.as_str(), order) {
-        ("ops", None) => print_operations(&rt, alloc)?,
-        ("digest", None) => print_digests(&rt, alloc)?,
-        ("lock", None) => print_locks(&rt, alloc)?,
-        ("store", None) => print_stores(&rt, alloc)?,
-        ("fill", Some("ascending")) => print_filled(&rt, alloc, Order::Ascending)?,
-        ("fill", Some("descending")) => print_filled(&rt, alloc, Order::Descending)?,
-        ("fill", Some("shuffled")) => print_filled(&rt, alloc, Order::Shuffled)?,
-        ("claim", None) => print_claims(&rt, alloc)?,
-        ("wait", Some("lock")) => print_lock_wait(&rt, alloc)?,
-        ("wait", Some("bell")) => print_bell_wait(&rt, alloc)?,
-        _ => {
-            eprint!(rt; "{USAGE}")?;
-            return Ok(ExitCode::from(2));
-        }
+    let name = second.as_ref().map(|word| word.as_str());
+    let is_known = match (word.as_str(), name) {
+        ("fill", Some(name)) => fill_by(&rt, alloc, name)?,
+        ("wait", Some(name)) => wait_by(&rt, alloc, name)?,
+        (name, None) => measure(&rt, alloc, name)?,
+        _ => false,
+    };
+    if is_known {
+        return Ok(ExitCode::SUCCESS);
     }
-    Ok(ExitCode::SUCCESS)
+    eprint!(rt; "{USAGE}")?;
+    Ok(ExitCode::from(2))
 }

@@ -62,7 +62,8 @@ fn time_lock<R: Wait + Clock>(
     begin.elapsed(rt)
 }
 
-fn print_wait<R: Print>(rt: &R, name: &str, waited: Duration) -> io::Result<()> {
+/// Prints how long a wait was.
+pub fn print_wait<R: Print>(rt: &R, name: &str, waited: Duration) -> io::Result<()> {
     let millis = waited.as_millis();
     println!(rt; "{name:<12} {millis:>6} ms")
 }

@@ -72,6 +72,11 @@ impl<'a> Caller<'a> {
         self.future.state(&mut self.pass).bits
     }
 
+    /// How many results there are from 0 on.
+    pub fn count<R: Wait>(&mut self, rt: &R) -> u32 {
+        self.future.count(rt, &mut self.pass)
+    }
+
     /// Makes a pass, meets it, and gives it back: whether there was one left.
     pub fn meet_another<R: Wait>(&mut self, rt: &R) -> bool {
         let Some(mut other) = self.future.new_pass(rt, &mut self.pass) else {

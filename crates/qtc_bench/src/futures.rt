@@ -17,6 +17,8 @@ const REPORTS: u32 = 262_144;
 
 const LOOKS: u32 = 4_000_000;
 
+const COUNTS: u32 = 1_000_000;
+
 const PASSES: u32 = 60_000;
 
 /// What is called.
@@ -26,6 +28,8 @@ enum Call {
     Report,
     /// A look at the flags.
     Look,
+    /// The number of results, for which a pass is lent and handed back.
+    Count,
     /// A pass is made, meets another, and is given back. The lock is taken as often.
     Pass,
 }
@@ -60,6 +64,8 @@ trait Calls {
     fn report<R: Wait>(&mut self, rt: &R, alloc: Global, begin: u32) -> Result<(), NoMemory>;
 
     fn look<R: Wait>(&mut self, rt: &R) -> u32;
+
+    fn count<R: Wait>(&mut self, rt: &R) -> u32;
 
     fn meet_another<R: Wait>(&mut self, rt: &R) -> bool;
 }
@@ -105,6 +111,10 @@ impl Calls for Caller<'_> {
         Caller::look(self)
     }
 
+    fn count<R: Wait>(&mut self, rt: &R) -> u32 {
+        Caller::count(self, rt)
+    }
+
     fn meet_another<R: Wait>(&mut self, rt: &R) -> bool {
         Caller::meet_another(self, rt)
     }
@@ -124,10 +134,14 @@ impl Calls for Locked<'_> {
         self.core.lock(rt).flags().bits
     }
 
+    fn count<R: Wait>(&mut self, rt: &R) -> u32 {
+        self.core.lock(rt).count()
+    }
+
     fn meet_another<R: Wait>(&mut self, rt: &R) -> bool {
-        let made = self.look(rt);
-        let met = self.look(rt);
-        let given_back = self.look(rt);
+        let made = self.count(rt);
+        let met = self.count(rt);
+        let given_back = self.count(rt);
         made == met && met == given_back
     }
 }
@@ -146,6 +160,7 @@ fn make_call<R: Wait, C: Calls>(
             Ok(1)
         }
         Call::Look => Ok(u64::from(caller.look(rt))),
+        Call::Count => Ok(u64::from(caller.count(rt))),
         Call::Pass => Ok(u64::from(caller.meet_another(rt))),
     }
 }
@@ -275,5 +290,6 @@ pub fn print_futures<R: Wait + Threads + Sync + Clock + Print>(
 ) -> io::Result<()> {
     print_calls(rt, alloc, "reports of 16", Call::Report, REPORTS)?;
     print_calls(rt, alloc, "looks", Call::Look, LOOKS)?;
+    print_calls(rt, alloc, "counts", Call::Count, COUNTS)?;
     print_calls(rt, alloc, "passes", Call::Pass, PASSES)
 }

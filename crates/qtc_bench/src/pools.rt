@@ -4,7 +4,7 @@ ghost use Rattle.std.specs.Prelude.{◌<◌};
 use crate::tables::print_table;
 use crate::timing::{Row, Work};
 use crate::waits::print_wait;
-use qtc_pool::Pool;
+use qtc_pool::{Becomes, Pool};
 use qtc_pool_core::PoolCore;
 use std::alloc::{AllocError, Global};
 use std::collections::VecDeque;
@@ -26,16 +26,18 @@ const WAITING: usize = 32;
 #[derive(Drop)]
 struct Counted;
 
-impl qtc_pool::Work<u64> for Counted {
+impl Becomes<u64> for Counted {
     ghost becomes = { λ _ _. Unit {0} };
-
-    fn run<R: Wait>(&self, _rt: &R, _pool: &Pool<Counted>, desk: &mut u64) {
-        *desk = desk.wrapping_add(1);
-    }
 
     ghost stays = { λ _. tt };
 
     ghost goes_on = { λ _ _ _ _ _. tt };
+}
+
+impl qtc_pool::Work<u64> for Counted {
+    fn run<R: Wait>(&self, _rt: &R, _pool: &Pool<Counted>, desk: &mut u64) {
+        *desk = desk.wrapping_add(1);
+    }
 }
 
 /// How tasks are queued and taken.

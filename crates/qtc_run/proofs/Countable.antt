@@ -1,6 +1,6 @@
 -- The jobs of a file that was read are few, its lists of files are short, its pieces have a byte, and its workers are 1 to
 -- 32.
-use Rattle.std.proofs.Common.{◌≡◌, ℕ, zero, suc, ◌+◌, ◌-◌, ◌<◌, ◌≤◌, Bool, true, false, cond, eqb, ltb, leb, List, [], ◌∷◌, ◌++◌, length, map, take, drop, get_or, Option, Some, None, refl, ap, sym, subst, ◌∙◌, append_assoc, append-nil, ⊎_elim, arith}
+use Rattle.std.proofs.Common.{◌≡◌, ℕ, ◌+◌, ◌-◌, ◌<◌, ◌≤◌, Bool, true, false, cond, eqb, ltb, leb, List, [], ◌∷◌, ◌++◌, length, map, take, drop, get_or, Option, Some, refl, sym, subst, ⊎_elim, arith}
 use Rattle.std.specs.Prelude.{All, Contains, ◌&&◌, not, reverse}
 use Rattle.std.proofs.lemmas.List.{reverse-reverse, length-map, take_all}
 use Rattle.std.specs.List.{flat_map}
@@ -10,17 +10,16 @@ use Rattle.std.proofs.lemmas.Bool.Decides.{nat_tests}
 use Rattle.std.proofs.lemmas.Grind.{common_steps}
 use Rattle.std.proofs.lemmas.List.Elements.{All-nil, All-cons}
 use Rattle.qtc_base.specs.Decimal.{number_of}
-use Rattle.qtc_job.specs.declared.jobs.Input.{Input}
 use Rattle.qtc_job.specs.declared.jobs.Job.{Job}
 use Rattle.qtc_job.specs.declared.jobs.JobFile.{JobFile}
 use Rattle.qtc_job.specs.declared.keywords.Keyword.{Keyword}
 use Rattle.qtc_job.specs.declared.keywords.Keyword.TheVariants as word
 use Rattle.qtc_job.specs.Codes.{codes_on, own_codes, job_codes, own_below, above_codes, form_codes, word_codes, where_, names_above, name_of, stands, is_no_number, is_out_of_range, is_repeated, repeats_a_name, is_a_job_too_many}
-use Rattle.qtc_job.specs.Forms.{Place, number, literal, chosen, input_form, directive_form, job_form, workers_form}
+use Rattle.qtc_job.specs.Forms.{Place, number, input_form, directive_form, job_form, workers_form}
 use Rattle.qtc_job.specs.Grammar.{IsBad, Reads, codes_at}
 use Rattle.qtc_job.specs.Keywords.{keyword_of, spelling}
 use Rattle.qtc_job.specs.Lawful.{IsWithin}
-use Rattle.qtc_job.specs.Lines.{Line, too_long, silent, unknown, workers, job, says, is_job}
+use Rattle.qtc_job.specs.Lines.{Line, too_long, silent, unknown, workers, job, says}
 use Rattle.qtc_job.specs.Literals.{is_numeral, is_within}
 use Rattle.qtc_job.specs.Meaning.{input_kind, input_meant, args_of, jobs_of, job_of, workers_of}
 use Rattle.qtc_job.proofs.LawfulLines.{workers-said}

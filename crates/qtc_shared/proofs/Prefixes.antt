@@ -1,7 +1,7 @@
 -- Journals that begin with others, and what a pass saw on the way.
-use Rattle.std.proofs.Common.{◌≡◌, ◌≢◌, ◌==◌, ℕ, Bool, true, false, List, [], ◌∷◌, ◌++◌, refl, ap, sym, ◌∙◌, append_assoc, append-nil, arith}
+use Rattle.std.proofs.Common.{◌≡◌, ◌≢◌, ◌<◌, ◌==◌, ℕ, Bool, true, false, All, List, [], ◌∷◌, ◌++◌, refl, ap, sym, ◌∙◌, append_assoc, append-nil, arith}
 use Rattle.std.proofs.lemmas.Bool.Decides.{nat_tests}
-use Rattle.std.proofs.lemmas.List.Elements.{filter-append}
+use Rattle.std.proofs.lemmas.List.Elements.{All-head, All-tail, filter-append}
 use Rattle.qtc_events.specs.Flags.{Standing}
 use Rattle.qtc_future.specs.Future.{Logged}
 use Rattle.qtc_shared.specs.Journals.{BeginsWith, Saw, calls_by, flags_at}
@@ -48,6 +48,15 @@ module _ {V : Type 0} where
       filter-append (λ (l : Logged V). l.entry.caller == number) journal (logged ∷ [])
       ∙ ap (λ xs. calls_by number journal ++ xs) (other_call number logged other)
       ∙ append-nil (calls_by number journal)
+
+  -- all calls are of lesser numbers
+  pub none_by : (number : ℕ) (journal : List (Logged V)) → All (λ (l : Logged V). l.entry.caller < number) journal → calls_by number journal ≡ []
+  none_by number [] callers = refl
+  none_by number (logged ∷ journal) callers =
+      let less = All-head (λ (l : Logged V). l.entry.caller < number) logged journal callers in
+      filter-append (λ (l : Logged V). l.entry.caller == number) (logged ∷ []) journal
+      ∙ ap (λ xs. xs ++ calls_by number journal) (other_call number logged (λ same. absurd (omega arith)))
+      ∙ none_by number journal (All-tail (λ (l : Logged V). l.entry.caller < number) logged journal callers)
 
   -- what a pass knows, and what fits
   pub fits_learned : (journal : List (Logged V)) (pass : PassPart V) → Fits journal (learned journal pass)

@@ -5,12 +5,13 @@ use Rattle.atomic_table.specs.declared.shared.Seat.{Seat}
 use Rattle.qtc_future.specs.Future.{Logged}
 use Rattle.qtc_shared.specs.declared.rule.View.{View}
 use Rattle.qtc_shared.specs.declared.flag_word.FlagWord.TheInside.{Inside}
-use Rattle.qtc_shared.specs.Journals.{IsAllowed, IsOfFirst}
+use Rattle.qtc_shared.specs.Journals.{IsAllowed, IsOfFirst, calls_by}
 use Rattle.qtc_shared.specs.Parts.{PassPart, BookPart}
 use Rattle.qtc_shared.specs.Passes.{FutureId, PassState}
 use Rattle.qtc_shared.specs.Passes as passes
 use Rattle.qtc_shared.specs.Rule.{view_with, terms_of, lent, Fits, IsBook, Knows}
 use Rattle.qtc_shared.specs.Inside.{word_state, IsWord, IsPassSeat, IsLentSeat, state_of}
+use Rattle.qtc_shared.proofs.Prefixes.{none_by}
 use Rattle.qtc_shared.proofs.Steps.{made_before}
 
 module _ {V : Type 0} (a : Inside V) (of : FutureId) (view_is : word_state a ≡ of) where
@@ -46,6 +47,13 @@ module _ {V : Type 0} (of : FutureId) (pass : PassPart V) (book : BookPart V) wh
       let fits = All-head (Fits knows.journal) pass [] knows.right.passes in
       let same : knows.journal ≡ book.journal = sym (All-head (IsBook knows.journal) book [] knows.right.books).same in
       subst (λ j. passes.Meets (state_of of pass) j) same (record { lawful = knows.lawful; saw = fits.saw; own = fits.own })
+
+  -- the number that the next pass will have has called nothing
+  pub unused : (before : View V) (word : ℕ) → before ≡ both → Knows before word → calls_by book.made book.journal ≡ []
+  unused before word is knows' =
+      let knows : Knows both word = subst (λ v. Knows v word) is knows' in
+      let is_book = All-head (IsBook knows.journal) book [] knows.right.books in
+      subst (λ j. calls_by book.made j ≡ []) (sym is_book.same) (none_by book.made knows.journal is_book.callers)
 
   pub below : (id : ℕ) (before : View V) (word : ℕ) → before ≡ both → Knows before word → pass.number < book.made
   below id before word is knows' = made_before of.terms id pass book word (subst (λ v. Knows v word) is knows')

@@ -59,8 +59,8 @@ IsCoreOf of core = core ≡ future_at of.terms core.calls
 pub record IsBookOf {V : Type 0} (of : FutureId) (book : Book V) : Type 0 where
   pub at : book.seat.table_id ≡ of.table
   pub ended : List ℕ
-  pub me : book.seat.me ≡ (view_with of.terms [] (book_with book.core.calls book.made.count ended ∷ []), [])
-  pub core : IsCoreOf of book.core
+  pub me : book.seat.me ≡ (view_with of.terms [] (book_with book.core.value.calls book.made.count ended ∷ []), [])
+  pub core : IsCoreOf of book.core.value
 
 abbrev pub fits_place : {V : Type 0} → Place → Book V → Type 0
 fits_place place book = IsBookOf (record { table = place.table; terms = place.terms }) book

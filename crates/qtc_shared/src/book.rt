@@ -38,10 +38,10 @@ impl Made {
     }
 }
 
-/// The core with the book's seat, and how many passes were made.
+/// The core with the book's seat, and how many passes were made. The core is in a box, so that a hold moves a pointer.
 #[derive(Drop)]
 pub struct Book<V> {
-    pub core: FutureCore<V>,
+    pub core: Box<FutureCore<V>>,
     pub made: Made,
     pub seat: Seat<(), View<V>>,
 }

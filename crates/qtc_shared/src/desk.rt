@@ -1,6 +1,6 @@
 //! The flag word of a shared future, and its book behind a lock.
-ghost use Rattle.std.specs.Prelude.{◌≡◌, ◌<◌, ◌≤◌, All, IfOk};
-ghost use Rattle.qtc_shared.specs.Journals.{Follows, IsOfFirst};
+ghost use Rattle.std.specs.Prelude.{◌≡◌, ◌<◌, ◌≤◌, [], All, IfOk};
+ghost use Rattle.qtc_shared.specs.Journals.{Follows, IsOfFirst, calls_by};
 ghost use Rattle.qtc_shared.specs.Limits.{most_passes};
 ghost use Rattle.qtc_shared.specs.Parts.{future_at};
 ghost use Rattle.qtc_shared.specs.Passes.{IsShared, Meets};
@@ -91,9 +91,10 @@ impl<V: Value> Desk<V> {
     pub fn lend<R: Wait>(&self, rt: &R, seat: &mut Seat<(), View<V>>) -> (Lent<V>, Hold<Book<V>>)
         requires { IsPassSeat self.now.word (pass_in seat.old.me.0.passes) seat.old }
         ensures hold { result.1 ≡ self.now.lock }
-        ensures core { result.0.core ≡ future_at self.now.word.terms result.0.core.calls }
-        ensures seat { IsLentSeat self.now.word (number_in seat.old) result.0.made.count result.0.core.calls seat.new }
-        ensures met { Meets (state_of self.now.word (pass_in seat.old.me.0.passes)) result.0.core.calls }
+        ensures core { result.0.core.value ≡ future_at self.now.word.terms result.0.core.value.calls }
+        ensures seat { IsLentSeat self.now.word (number_in seat.old) result.0.made.count result.0.core.value.calls
+            seat.new }
+        ensures met { Meets (state_of self.now.word (pass_in seat.old.me.0.passes)) result.0.core.value.calls }
     {
         let (book, hold) = self.take(rt);
         (self.word.lend(book, seat), hold)
@@ -103,9 +104,9 @@ impl<V: Value> Desk<V> {
     pub fn enter(&self, lent: Lent<V>, hold: Hold<Book<V>>, seat: &mut Seat<(), View<V>>)
         requires hold { hold ≡ self.now.lock }
         requires seat { IsLentSeat self.now.word (number_in seat.old) lent.made.count (journal_of seat.old) seat.old }
-        requires core { lent.core ≡ future_at self.now.word.terms lent.core.calls }
-        requires call { Follows self.now.word.terms (number_in seat.old) (journal_of seat.old) lent.core.calls }
-        ensures { IsPassSeat self.now.word (knowing (number_in seat.old) lent.core.calls) seat.new }
+        requires core { lent.core.value ≡ future_at self.now.word.terms lent.core.value.calls }
+        requires call { Follows self.now.word.terms (number_in seat.old) (journal_of seat.old) lent.core.value.calls }
+        ensures { IsPassSeat self.now.word (knowing (number_in seat.old) lent.core.value.calls) seat.new }
     {
         let (book, changed) = self.word.enter(lent, seat);
         self.put(book, hold);
@@ -127,9 +128,10 @@ impl<V: Value> Desk<V> {
         requires { IsPassSeat self.now.word (pass_in seat.old.me.0.passes) seat.old }
         ensures book { IsBookOf self.now.word result.0 }
         ensures hold { result.1 ≡ self.now.lock }
-        ensures seat { IsPassSeat self.now.word (knowing (number_in seat.old) result.0.core.calls) seat.new }
-        ensures met { Meets (state_of self.now.word (pass_in seat.old.me.0.passes)) result.0.core.calls }
+        ensures seat { IsPassSeat self.now.word (knowing (number_in seat.old) result.0.core.value.calls) seat.new }
+        ensures met { Meets (state_of self.now.word (pass_in seat.old.me.0.passes)) result.0.core.value.calls }
         ensures number { number_in seat.old < result.0.made.count }
+        ensures fresh { calls_by result.0.made.count result.0.core.value.calls ≡ [] }
     {
         let (book, hold) = self.take(rt);
         (self.word.show(book, seat), hold)
@@ -153,6 +155,6 @@ impl<V: Value> Desk<V> {
             made: _,
             word: _,
         } = word.lend(book, &mut seat);
-        core
+        Box::into_inner(core)
     }
 }

@@ -1,7 +1,7 @@
 //! The flag word of a shared future, and what passes and the book do at it.
 ghost use Rattle.std.specs.Prelude.{ℕ, ◌≡◌, ◌<◌, ◌≤◌, ◌+◌, [], ◌∷◌, All, Some, MatchOption, IfOk, length, slice_get, vec_capacity};
 ghost use Rattle.qtc_events.specs.Flags.{flags_in};
-ghost use Rattle.qtc_shared.specs.Journals.{Follows, IsOfFirst, Shows};
+ghost use Rattle.qtc_shared.specs.Journals.{Follows, IsOfFirst, Shows, calls_by};
 ghost use Rattle.qtc_shared.specs.Parts.{future_at};
 ghost use Rattle.qtc_shared.specs.Limits.{most_passes};
 ghost use Rattle.qtc_shared.specs.Passes.{Meets, IsLook, pass_at};
@@ -39,7 +39,7 @@ impl<V> Model for FlagWord<V> {
 /// A book while a pass is lent to it: the pass's seat has the book's part too. `word` is the flag word as it was found.
 #[derive(Drop)]
 pub struct Lent<V> {
-    pub core: FutureCore<V>,
+    pub core: Box<FutureCore<V>>,
     pub made: Made,
     pub word: u64,
 }
@@ -72,9 +72,10 @@ impl<V> FlagWord<V> {
         requires pass { IsPassSeat self.now (pass_in seat.old.me.0.passes) seat.old }
         ensures core { result.core ≡ book.core }
         ensures made { result.made ≡ book.made }
-        ensures seat { IsLentSeat self.now (number_in seat.old) book.made.count book.core.calls seat.new }
-        ensures met { Meets (state_of self.now (pass_in seat.old.me.0.passes)) book.core.calls }
+        ensures seat { IsLentSeat self.now (number_in seat.old) book.made.count book.core.value.calls seat.new }
+        ensures met { Meets (state_of self.now (pass_in seat.old.me.0.passes)) book.core.value.calls }
         ensures number { number_in seat.old < book.made.count }
+        ensures fresh { calls_by book.made.count book.core.value.calls ≡ [] }
     {
         let Book {
             core,
@@ -90,11 +91,11 @@ impl<V> FlagWord<V> {
     /// lent; then the pass and the book are two again. Says also whether the word changed.
     pub fn enter(&self, lent: Lent<V>, seat: &mut Seat<(), View<V>>) -> (Book<V>, bool)
         requires seat { IsLentSeat self.now (number_in seat.old) lent.made.count (journal_of seat.old) seat.old }
-        requires core { lent.core ≡ future_at self.now.terms lent.core.calls }
-        requires call { Follows self.now.terms (number_in seat.old) (journal_of seat.old) lent.core.calls }
+        requires core { lent.core.value ≡ future_at self.now.terms lent.core.value.calls }
+        requires call { Follows self.now.terms (number_in seat.old) (journal_of seat.old) lent.core.value.calls }
         ensures book { IsBookOf self.now result.0 }
         ensures core { result.0.core ≡ lent.core }
-        ensures seat { IsPassSeat self.now (knowing (number_in seat.old) lent.core.calls) seat.new }
+        ensures seat { IsPassSeat self.now (knowing (number_in seat.old) lent.core.value.calls) seat.new }
     {
         let word = lent.core.flags().bits as u64;
         let changed = word != lent.word;
@@ -124,12 +125,12 @@ impl<V> FlagWord<V> {
 
     /// The pass that is lent and the book are two again, where the core is as it was.
     pub fn hand_back(&self, lent: Lent<V>, seat: &mut Seat<(), View<V>>) -> Book<V>
-        requires seat { IsLentSeat self.now (number_in seat.old) lent.made.count lent.core.calls seat.old }
-        requires core { lent.core ≡ future_at self.now.terms lent.core.calls }
+        requires seat { IsLentSeat self.now (number_in seat.old) lent.made.count lent.core.value.calls seat.old }
+        requires core { lent.core.value ≡ future_at self.now.terms lent.core.value.calls }
         ensures book { IsBookOf self.now result }
         ensures core { result.core ≡ lent.core }
         ensures made { result.made ≡ lent.made }
-        ensures seat { IsPassSeat self.now (knowing (number_in seat.old) lent.core.calls) seat.new }
+        ensures seat { IsPassSeat self.now (knowing (number_in seat.old) lent.core.value.calls) seat.new }
     {
         let Lent {
             core,
@@ -147,9 +148,10 @@ impl<V> FlagWord<V> {
         ensures book { IsBookOf self.now result }
         ensures core { result.core ≡ book.core }
         ensures made { result.made ≡ book.made }
-        ensures seat { IsPassSeat self.now (knowing (number_in seat.old) book.core.calls) seat.new }
-        ensures met { Meets (state_of self.now (pass_in seat.old.me.0.passes)) book.core.calls }
+        ensures seat { IsPassSeat self.now (knowing (number_in seat.old) book.core.value.calls) seat.new }
+        ensures met { Meets (state_of self.now (pass_in seat.old.me.0.passes)) book.core.value.calls }
         ensures number { number_in seat.old < book.made.count }
+        ensures fresh { calls_by book.made.count book.core.value.calls ≡ [] }
     {
         let lent = self.lend(book, seat);
         self.hand_back(lent, seat)
@@ -161,7 +163,7 @@ impl<V> FlagWord<V> {
         ensures book { IsBookOf self.now book.new }
         ensures core { book.new.core ≡ book.old.core }
         ensures pass { MatchOption result ((book.old.made.count ≡ most_passes) × (book.new.made ≡ book.old.made))
-            (λ pass. (pass ≡ pass_at self.now book.old.made.count book.old.core.calls)
+            (λ pass. (pass ≡ pass_at self.now book.old.made.count book.old.core.value.calls)
             × (book.new.made.count ≡ book.old.made.count + 1)) }
     {
         let number = book.made.next()?;
@@ -174,13 +176,13 @@ impl<V> FlagWord<V> {
         requires book { IsBookOf self.now book }
         requires passes { (1 ≤ passes) × (passes ≤ most_passes) }
         requires one { book.made.count ≡ 1 }
-        requires first { handed.old.items ≡ pass_at self.now 0 book.core.calls ∷ [] }
+        requires first { handed.old.items ≡ pass_at self.now 0 book.core.value.calls ∷ [] }
         requires room { passes ≤ vec_capacity handed.old }
         ensures book { IsBookOf self.now result }
         ensures core { result.core ≡ book.core }
         ensures count { length handed.new.items ≡ passes }
         ensures each { (number : ℕ) → number < passes
-            → slice_get handed.new.items number ≡ Some (pass_at self.now number book.core.calls) }
+            → slice_get handed.new.items number ≡ Some (pass_at self.now number book.core.value.calls) }
     {
         let mut book = book;
         for _made in 1..passes {
@@ -224,7 +226,7 @@ impl<V> FlagWord<V> {
             ≡ record { filter = core.filter; thresholds = core.thresholds; makers = makers }) }
         ensures pass { IfOk result (λ made. made.1 ≡ pass_at made.0 0 core.calls) }
         ensures book { IfOk result (λ made. IsBookOf made.0 made.2) }
-        ensures core { IfOk result (λ made. made.2.core ≡ core) }
+        ensures core { IfOk result (λ made. made.2.core.value ≡ core) }
         ensures one { IfOk result (λ made. made.2.made.count ≡ 1) }
     {
         // What a core has is legal.
@@ -233,6 +235,7 @@ impl<V> FlagWord<V> {
         let opening = Opening { core, makers };
         let (table, mut seat) = Table::of_words(alloc, &[word], &opening)?;
         let Opening { core, makers: _ } = opening;
+        let core = Box::new(alloc, core)?;
         let book = table.shared.split_seat::<HandBack>(&mut seat);
         let book = Book {
             core,

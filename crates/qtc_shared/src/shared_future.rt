@@ -1,6 +1,6 @@
 //! A future that threads share: how it is made, how its passes come and go, and how it ends.
 ghost use Rattle.std.specs.Prelude.{◌≡◌, ◌≤◌, ◌<◌, [], All, IfOk, IfSome, IfNone};
-ghost use Rattle.qtc_shared.specs.Journals.{IsOfFirst};
+ghost use Rattle.qtc_shared.specs.Journals.{IsOfFirst, calls_by};
 ghost use Rattle.qtc_shared.specs.Limits.{most_passes};
 ghost use Rattle.qtc_shared.specs.Parts.{future_at};
 ghost use Rattle.qtc_shared.specs.Passes.{IsHold, IsShared, Meets, Stays, pass_at};
@@ -97,12 +97,14 @@ impl<V: Value> SharedFuture<V> {
         self.makers
     }
 
-    /// A new pass with the next number, which knows what `from` then knows. None exactly where 65,536 were made.
+    /// A new pass with the next number, which knows what `from` then knows, and has called nothing. None exactly where
+    /// 65,536 were made.
     pub fn new_pass<R: Wait>(&self, rt: &R, from: &mut Pass<V>) -> Option<Pass<V>>
         requires { from.old.of ≡ self.now }
         ensures from { IsHold from.old from.new Stays }
         ensures pass { IfSome result (λ pass. pass ≡ pass_at self.now pass.number from.new.known) }
         ensures number { IfSome result (λ pass. (from.old.number < pass.number) × (pass.number < most_passes)) }
+        ensures fresh { IfSome result (λ pass. calls_by pass.number pass.known ≡ []) }
     {
         let (mut book, hold) = self.desk.show(rt, &mut from.seat);
         let pass = self.desk.word.make(&mut book);

@@ -11,5 +11,5 @@ invariant-loop-made g l = record {
   made : l.book.made.count ≡ l._made;
   count : length l.handed.items ≡ l._made;
   room : l.passes ≤ vec_capacity l.handed;
-  each : (number : ℕ) → number < l._made → slice_get l.handed.items number ≡ Some (pass_at l.self number l.fn.book.core.calls);
+  each : (number : ℕ) → number < l._made → slice_get l.handed.items number ≡ Some (pass_at l.self number l.fn.book.core.value.calls);
 }

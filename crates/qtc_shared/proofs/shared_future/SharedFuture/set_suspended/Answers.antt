@@ -1,4 +1,4 @@
-use Rattle.std.proofs.Common.{subst}
+use Rattle.std.proofs.Common.{◌∙◌, subst}
 use Rattle.qtc_future.specs.Answering.{IsTry}
 use Rattle.qtc_future.specs.Steps.{Effect, step}
 use Rattle.qtc_future.specs.declared.requests.Request.TheVariants.{SetSuspended}
@@ -9,10 +9,11 @@ pub enter-requires-clause-call : goal.enter-requires-clause-call
 enter-requires-clause-call g c = λ κs le.
     let of = c.self.inside.desk.word in
     let lent = c.lend-lent.result.0 in
-    let core = lent.core in
+    let core = c.deref_mut.result.now in
+    let calls = lent.core.value.calls in
     let number = c.pass.invariant.number in
     let after = c.set_suspended-effect.new.self in
     let request = SetSuspended c.args.on in
     let tried = subst (λ n. IsTry core (step core n request) Effect after c.set_suspended-effect.result) number c.set_suspended-effect.ensures in
-    at_lent of _ lent.made.count core.calls c.lend-lent.new.seat after c.lend-lent.ensures.seat
-    (try_after of.terms _ core.calls request core after Effect c.set_suspended-effect.result c.lend-lent.ensures.core (toggle_after of.terms _ core.calls c.args.on) tried)
+    at_lent of _ lent.made.count calls c.lend-lent.new.seat after c.lend-lent.ensures.seat
+    (try_after of.terms _ calls request core after Effect c.set_suspended-effect.result (c.deref_mut.ensures.value ∙ c.lend-lent.ensures.core) (toggle_after of.terms _ calls c.args.on) tried)

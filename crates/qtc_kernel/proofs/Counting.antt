@@ -38,9 +38,6 @@ times-unless_empty number range =
     empty : (number begin end : ℕ) → nat_lt begin end ≡ false → 0 ≡ cond {A = ℕ} (nat_le begin number && nat_lt number end) 1 0
     empty number begin end e = grind (arith, nat_tests)
 
-pub covers_most : (number : ℕ) (range : ℕ × ℕ) → covers number range ≤ 1
-covers_most number range = grind (arith, nat_tests)
-
 pub covers_begin : (range : ℕ × ℕ) → range.0 < range.1 → covers range.0 range ≡ 1
 covers_begin range some = grind (arith, nat_tests)
 

@@ -16,18 +16,6 @@ module _ (p : ℕ → Bool) where
         | false ↦ λ is f. let later = found_within (begin + 1) n index f in (omega (arith, later.0), omega (arith, later.1), later.2)
       ] refl e
 
-  -- none of the numbers before the first passes
-  pub found_first : (begin n index i : ℕ) → find p (range_with_len begin n) ≡ Some index → begin ≤ i → i < index → p i ≡ false
-  found_first begin zero index i e low less = absurd (cc)
-  found_first begin (suc n) index i e low less =
-      elim (p begin) as (λ b. p begin ≡ b → cond b (Some begin) (find p (range_with_len (begin + 1) n)) ≡ Some index → p i ≡ false) [
-        | true ↦ λ is f. let same : begin ≡ index = cc in absurd (omega arith)
-        | false ↦ λ is f. elim (cases_lt begin i) [
-          | inl later ↦ found_first (begin + 1) n index i f (omega arith) less
-          | inr here ↦ let same : begin ≡ i = omega arith in subst (λ k. p k ≡ false) same is
-        ]
-      ] refl e
-
   pub none_found : (begin n index : ℕ) → find p (range_with_len begin n) ≡ None → begin ≤ index → index < begin + n → p index ≡ false
   none_found begin zero index e low high = absurd (omega arith)
   none_found begin (suc n) index e low high =
@@ -62,9 +50,6 @@ index_from index (Some first) e = let same : index ≡ first = equal index first
   where
     equal : (a b : ℕ) → (a == b) ≡ true → a ≡ b
     equal a b e = grind (arith, nat_tests)
-
-pub is_index-same : (index : ℕ) → is_index index (Some index) ≡ true
-is_index-same index = grind (arith, nat_tests)
 
 -- the index lies in the range, and its item is bad
 pub record IsFirstBad (work : Workload) (range : ℕ × ℕ) (index : ℕ) : Type 0 where

@@ -9,9 +9,6 @@ pub mod Tiled
 pub mod Whole
 pub mod OneBlock
 pub mod Turns
-pub mod Calm
-pub mod Underway
-pub mod BlockSteps
 pub mod Gathering
 pub mod Passing
 pub mod Boards

@@ -100,10 +100,6 @@ front-at work begin index end before after new low high good was (inl same) =
 front-at work begin index end before after new low high good was (inr more) =
     record { at = index + 1; low = omega arith; high = omega arith; good = λ i l h. good i l (omega arith); calls = calls-more before after new begin index low was more }
 
-pub front-none : (work : Workload) (begin end : ℕ) (before : List ℕ) → begin ≤ end → CallsUpTo work (begin, end) before before
-front-none work begin end before whole =
-    record { at = begin; low = omega arith; high = whole; good = λ i l h. absurd (omega arith); calls = sym (append-nil before) ∙ ap (λ xs. before ++ xs) (sym (indexes-none begin)) }
-
 -- there is an item at each index below the number of items
 pub some-at : (items : List (List ℕ)) (index : ℕ) (got : Option (Bor (List ℕ))) → index < length items → option_copied got ≡ slice_get items index → IsSome got
 some-at items index None within e = absurd (let some = slice_get-get_or items index [] within in cc)

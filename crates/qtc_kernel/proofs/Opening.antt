@@ -15,7 +15,7 @@ use Rattle.qtc_future.specs.Steps.{Told, step}
 use Rattle.qtc_future.specs.declared.requests.Request.TheVariants.{Start as AskStart}
 use Rattle.qtc_future.proofs.Plain.{idle_reached}
 use Rattle.qtc_ops.specs.ItemValue.{ItemValue}
-use Rattle.qtc_shared.specs.Journals.{BeginsWith, IsOfFirst, calls_by}
+use Rattle.qtc_shared.specs.Journals.{BeginsWith, calls_by}
 use Rattle.qtc_shared.specs.Parts.{Terms}
 use Rattle.qtc_shared.specs.Passes.{FutureId, IsShared, PassState, pass_at}
 use Rattle.qtc_shared.proofs.Prefixes.{begins_same}
@@ -34,9 +34,6 @@ start_opens filter cancel_after suspend_after core told done =
     done.future
     ∙ ap (λ (reached : Reached). record (new_future filter cancel_after suspend_after) { calls = record { entry = record { caller = 0; call = Start; reached = reached }; values = []; item = [] } ∷ [] })
     (sym (idle_reached (new_future {V = List ℕ} filter cancel_after suspend_after) Start refl))
-
-pub opening_first : All IsOfFirst opening
-opening_first = All-cons IsOfFirst (record { entry = own_entry Start; values = []; item = [] }) [] (record { caller = refl }) (All-nil IsOfFirst)
 
 -- ---- passes that were taken from the end
 

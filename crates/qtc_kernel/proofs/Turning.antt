@@ -60,9 +60,6 @@ module _ {F : Type 0} (value : F → List ℕ → ItemValue) (called : F → Lis
   pub size_least : (turn : ℕ) → turn < length crew.sizes → 1 ≤ slice_index crew.sizes turn
   size_least turn within = All-get_or (λ size. 1 ≤ size) crew.sizes turn 0 within fits.sizes.least
 
-  pub size_most : (turn : ℕ) → turn < length crew.sizes → slice_index crew.sizes turn ≤ 65536
-  size_most turn within = All-get_or (λ size. size ≤ 65536) crew.sizes turn 0 within fits.sizes.most
-
   module _ (old : DeskState F) (desk : IsDesk value called crew old) (mid : DeskState F) (looked : HasLooked old.pass mid.pass) (of : mid.seat.of ≡ crew.counter)
       (function : mid.function ≡ old.function) (given_up : mid.given_up ≡ old.given_up) (lacks : mid.lacks ≡ old.lacks) where
     own : All (λ logged. IsOwnCall (work_of value crew) mid.lacks logged.entry.call logged.item) (calls_by mid.pass.number mid.pass.known)

@@ -100,8 +100,8 @@ HasMetEnd pass = IsTrue (list_any shows_end (flags_at pass.known ∷ pass.seen))
 
 -- ---- a desk
 
--- a worker's desk: its seat at the counter, its pass, its function, the place of its next size, the piece of a claim that
--- it gave up, whether the worker is in, and whether it wanted memory
+-- a worker's desk: its seat at the counter, its pass, its function, the place of its next size, the piece of a claim
+-- that it gave up, whether the worker is in, and whether it wanted memory
 pub record DeskState (F : Type 0) : Type 0 where
   pub seat : SeatState
   pub pass : PassState (List ℕ)
@@ -181,8 +181,8 @@ pub record IsSeated {F : Type 0} (value : F → List ℕ → ItemValue) (crew : 
   pub sizes : map (λ claim. claim.size) (given_at crew.counter.n desk)
       ≡ in_turn crew.sizes (length (given_at crew.counter.n desk))
 
--- what each desk of an engine keeps, whatever its worker does: each claim that gave a piece was worked on and handed in,
--- but for one that was given up, where an end was met
+-- what each desk of an engine keeps, whatever its worker does: each claim that gave a piece was worked on and handed
+-- in, but for one that was given up, where an end was met
 pub record IsDesk {F : Type 0} (value : F → List ℕ → ItemValue) (called : F → List ℕ) (crew : Crew F)
     (desk : DeskState F) : Type 0 where
   pub seated : IsSeated value crew desk

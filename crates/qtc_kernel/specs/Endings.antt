@@ -44,8 +44,8 @@ pub record AreGathered {F : Type 0} (journal : List (Logged (List ℕ))) (old ne
   pub pieces : new.pieces ≡ old.pieces ++ given_up_at desks
   pub met : All (λ desk. Meets desk.pass journal) desks
 
--- the future was finished at a journal that the first desk's pass met; what the others have was brought in to the journal
--- that is then known; and all seats are gathered, with the pieces that were given up
+-- the future was finished at a journal that the first desk's pass met; what the others have was brought in to the
+-- journal that is then known; and all seats are gathered, with the pieces that were given up
 pub record AreSettled {F : Type 0} (value : F → List ℕ → ItemValue) (crew : Crew F) (first : DeskState F)
     (others : List (DeskState F)) (known : List (Logged (List ℕ))) : Type 0 where
   pub journal : List (Logged (List ℕ))

@@ -18,8 +18,8 @@ pub record AreOfPieces (tally : TallyState) (reported : List (ℕ × ℕ)) : Typ
   pub claims : All (λ claim. Contains reported (clipped tally.of.n claim)) (gave tally.of.n (claims_of tally.workers))
   pub pieces : All (Contains (gathered_ranges tally)) reported
 
--- no piece is missing: the gathered ones tile 0 to n, the counter is at its end, and each index below n was reported, and
--- no other
+-- no piece is missing: the gathered ones tile 0 to n, the counter is at its end, and each index below n was reported,
+-- and no other
 pub record NoneIsMissing (tally : TallyState) (reported : List (ℕ × ℕ)) : Type 0 where
   pub tiles : Tiles (gathered_ranges tally) tally.of.n
   pub end : IsEnd tally

@@ -1,4 +1,4 @@
--- What the parts of one worker's loop come to. (Own.)
+-- What the work on one block comes to. (Own.)
 use Rattle.std.specs.Prelude.{◌≡◌, ◌⊎◌, ◌+◌, ◌<◌, ◌≤◌, ℕ, false, List, [], ◌∷◌, ◌++◌, None, Some, Result, Ok, Err}
 use Rattle.qtc_ops.specs.ItemValue.{ItemValue, kept, dropped, bad}
 use Rattle.qtc_ops.specs.declared.item_faults.ItemFault.{ItemFault}

@@ -1,5 +1,6 @@
--- What an engine does, event by event, without threads: whoever works on it claims ranges of indexes, calls the function
--- on each index of a range, and reports what it kept, or that an item was bad. (After Qt's IterateKernel; own.)
+-- What an engine does, event by event, without threads: whoever works on it claims ranges of indexes, calls the
+-- function on each index of a range, and reports what it kept, or that an item was bad. (After Qt's IterateKernel;
+-- own.)
 use Rattle.std.specs.Prelude.{ℕ, ◌+◌, ◌-◌, ◌==◌, ◌&&◌, nat_le, nat_lt, not, Bool, true, false, if◌then◌else◌, List, [], ◌∷◌, ◌++◌, filter, fold, is_none, Option, Some, None}
 use Rattle.std.specs.List.{list_any}
 use Rattle.qtc_base.specs.Ranges.{clip}
@@ -9,8 +10,8 @@ use Rattle.qtc_future.specs.declared.requests.Request.{Request}
 use Rattle.qtc_future.specs.declared.requests.Request.TheVariants as request
 use Rattle.qtc_kernel.specs.Workload.{Workload, first_bad, indexes_of, item_at, size_of, texts_in}
 
--- what became of a claimed range: the future took its values; or it did not, as Canceled or Finished stood; or an item of
--- the range was bad
+-- what became of a claimed range: the future took its values; or it did not, as Canceled or Finished stood; or an item
+-- of the range was bad
 pub data Fate : Type 0 where
   accepted : Fate
   dropped : Fate

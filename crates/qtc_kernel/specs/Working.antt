@@ -40,7 +40,8 @@ range_in crew piece = clipped crew.counter.n piece.addition
 
 -- the range was reported by this number, or there is a report of another
 abbrev pub IsReported : ℕ → List (Logged (List ℕ)) → ℕ × ℕ → Type 0
-IsReported number journal range = Contains (ranges_by number journal) range ⊎ IsTrue (list_any (is_strange number) journal)
+IsReported number journal range =
+    Contains (ranges_by number journal) range ⊎ IsTrue (list_any (is_strange number) journal)
 
 -- told that an end stands
 abbrev pub is_drop : Told → Bool

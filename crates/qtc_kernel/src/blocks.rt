@@ -1,4 +1,4 @@
-ghost use Rattle.std.specs.Prelude.{◌≡◌, ◌+◌, ◌<◌, ◌≤◌, ◌++◌, min, IfOk, OnErr, length};
+ghost use Rattle.std.specs.Prelude.{◌≡◌, ◌+◌, ◌<◌, ◌≤◌, ◌++◌, IfOk, OnErr, length};
 ghost use Rattle.qtc_kernel.specs.Inside.{called_in, Calls, CallsUpTo, IsBlockOf, Takes};
 ghost use Rattle.qtc_kernel.specs.Workload.{workload};
 
@@ -15,14 +15,6 @@ pub(crate) enum Block {
     Kept(List<Bytes>),
     /// The least index whose item is bad.
     Bad(u32),
-}
-
-/// Where a block of `size` indexes ends that begins at `begin`, of the indexes below `n`.
-pub(crate) fn block_end(begin: u32, size: u32, n: u32) -> u32
-    requires { begin ≤ n }
-    ensures { result ≡ min (begin + size) n }
-{
-    if size < n - begin { begin + size } else { n }
 }
 
 /// How many values a block has room for from the beginning: all in a map; a filter's grow as they are kept.

@@ -11,7 +11,8 @@ use qtc_shared::{Pass, SharedFuture};
 use std::alloc::Global;
 use std::marker::{Brand, Model, PhantomData};
 
-/// The tally of the pieces, and the pass that reports them, each in the hold of the lock in which its piece is gathered.
+/// The tally of the pieces, and the pass that reports them, each in the hold of the lock in which its piece is
+/// gathered.
 #[derive(Drop)]
 pub(crate) struct Board<F> {
     pub(crate) tally: Tally,

@@ -9,8 +9,8 @@ pub fn reports_meet_claims()
     ensures { ReportsMeetClaims }
 {}
 
-/// What the desks of an engine keep, put together, is the sequential answer where nothing was canceled; and in every case
-/// no index was called twice, and each report has the texts of a block that was called.
+/// What the desks of an engine keep, put together, is the sequential answer where nothing was canceled; and in every
+/// case no index was called twice, and each report has the texts of a block that was called.
 pub fn desks_are_worked_out()
     ensures { DesksAreWorkedOut }
 {}

@@ -13,8 +13,8 @@ use qtc_shared::{Pass, known_is_kept};
 use std::sync::Wait;
 
 impl<'a, F: ItemFn, G: Gate> Engine<'a, F, G> {
-    /// Ends the engine, and gives the core of its future. Where the pass knows that the future is finished, the core's calls
-    /// are those that it knows.
+    /// Ends the engine, and gives the core of its future. Where the pass knows that the future is finished, the core's
+    /// calls are those that it knows.
     pub fn close<R: Wait>(self, rt: &R, pass: Pass<Bytes>) -> FutureCore<Bytes>
         requires { pass.of ≡ self.future }
         ensures core { result ≡ future_at self.entry.future.terms result.calls }

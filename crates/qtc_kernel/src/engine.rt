@@ -1,7 +1,6 @@
 //! An engine that many workers drive.
 ghost use Rattle.std.specs.Prelude.{◌≡◌, ◌<◌, true, false, IfOk, IsTrue};
 ghost use Rattle.qtc_shared.specs.Passes.{Sees};
-ghost use Rattle.qtc_kernel.specs.Driving.{is_filter};
 ghost use Rattle.qtc_kernel.specs.Crews.{IsDesk, IsEngineOf, IsPlanned, IsSameButLooks, plan_terms};
 
 use crate::board::{Board, placed};
@@ -52,16 +51,6 @@ impl<'a, F: ItemFn, G: Gate> Model for Engine<'a, F, G> {
     ghost invariant = { IsEngine F.value };
 }
 
-// Whether the results are a list of what is kept.
-fn is_filtered(kind: Kind) -> bool
-    ensures { result ≡ is_filter kind }
-{
-    match kind {
-        Kind::Mapped => false,
-        Kind::Filtered => true,
-    }
-}
-
 impl<'a, F: ItemFn + Drop, G: Gate> Engine<'a, F, G> {
     /// An engine, a desk for each worker, in order of their numbers and all out, and a pass for the caller.
     ///
@@ -88,7 +77,7 @@ impl<'a, F: ItemFn + Drop, G: Gate> Engine<'a, F, G> {
             cancel_after,
             suspend_after,
         } = plan;
-        let mut core = FutureCore::new(alloc, is_filtered(kind), cancel_after, suspend_after)?;
+        let mut core = FutureCore::new(alloc, kind.is_filter(), cancel_after, suspend_after)?;
         core.start(0);
         let (future, mut passes) = SharedFuture::from_core(alloc, core, workers + 1, workers + 2)?;
         let caller = passes.pop().unwrap();
@@ -139,8 +128,8 @@ impl<'a, F: ItemFn, G: Gate> Engine<'a, F, G> {
         self.crowd.fetch_add(1, SeqCst);
     }
 
-    /// Whether a further worker would find something to do: an index is left, Canceled doesn't stand, and fewer than all
-    /// workers are in. How many are in, no contract says.
+    /// Whether a further worker would find something to do: an index is left, Canceled doesn't stand, and fewer than
+    /// all workers are in. How many are in, no contract says.
     pub fn may_start(&self, desk: &mut Desk<F>) -> bool
         requires desk { IsDesk F.value F.called self.now desk.old }
         ensures desk { IsDesk F.value F.called self.now desk.new }

@@ -3,8 +3,9 @@
 //! The machine (`specs/Machine.antt`) says it event by event, without threads, over the future's own steps. Its laws
 //! hold for every list of events.
 //!
-//! Many workers share an `Engine` by reference, each with a `Desk` of its own. A worker enters, takes turns by `step` until
-//! an answer other than `Did`, and is then out. What each desk keeps, whatever the other workers do, is `IsDesk`.
+//! Workers, one or many, share an `Engine` by reference, each with a `Desk` of its own. A worker enters, takes turns by
+//! `step` until an answer other than `Did`, and is then out. What each desk keeps, whatever the other workers do, is
+//! `IsDesk`.
 #![tactic(auto)]
 
 mod blocks;
@@ -17,7 +18,6 @@ mod finishing;
 mod handing;
 mod kinds;
 mod laws;
-mod one_worker;
 mod plan;
 mod stepping;
 #[cfg(test)]
@@ -34,6 +34,5 @@ pub use laws::{
     no_index_is_called_twice, nothing_is_taken_after_cancel, ranges_are_blocks, ranges_tile,
     whole_runs_are_sequential,
 };
-pub use one_worker::run_one;
 pub use plan::Plan;
 pub use turn::Turn;

@@ -1,5 +1,5 @@
 //! One turn of a worker.
-ghost use Rattle.std.specs.Prelude.{◌≡◌, ◌⊎◌, true, false, None, Some, IsTrue};
+ghost use Rattle.std.specs.Prelude.{◌≡◌, ◌+◌, ◌<◌, ◌⊎◌, true, false, None, Some, IsTrue, cond, nat_lt};
 ghost use Rattle.qtc_events.specs.Flags.{flags_in};
 ghost use Rattle.qtc_kernel.specs.Crews.{HasMetEnd, IsDesk, shows_end, work_of};
 ghost use Rattle.qtc_kernel.specs.Laws.{IsFailing};
@@ -8,7 +8,6 @@ ghost use Rattle.qtc_kernel.specs.Working.{HasFailed, HasGivenUp, HasLooked, IsA
 ghost use Rattle.qtc_kernel.specs.Workload.{item_at};
 
 use crate::blocks::{Block, block_values};
-use crate::one_worker::next_turn;
 use crate::{Desk, Engine, Turn};
 use qtc_base::{Bytes, NoMemory};
 use qtc_claim::Piece;
@@ -31,6 +30,14 @@ fn is_to_wait(flags: Flags) -> bool {
     (flags.is_suspending() || flags.is_suspended()) && !ended(flags)
 }
 
+// The place after `turn` in a list of so many, over and over.
+fn next_turn(turn: usize, len: usize) -> usize
+    requires { turn < len }
+    ensures { result ≡ cond (nat_lt (turn + 1) len) (turn + 1) 0 }
+{
+    if turn + 1 < len { turn + 1 } else { 0 }
+}
+
 fn is_did(turn: Turn) -> bool
     ensures { result ≡ goes_on turn }
 {
@@ -41,9 +48,9 @@ fn is_did(turn: Turn) -> bool
 }
 
 impl<'a, F: ItemFn, G: Gate> Engine<'a, F, G> {
-    /// One turn of a worker that is in: it looks whether an end stands, waits where the future is suspended, claims a block
-    /// of the size whose turn it is, calls the function on each index of it, ascending, entering the gate with the
-    /// job and the index just before each call, and reports what was kept. No contract sees the gate.
+    /// One turn of a worker that is in: it looks whether an end stands, waits where the future is suspended, claims a
+    /// block of the size whose turn it is, calls the function on each index of it, ascending, entering the gate with
+    /// the job and the index just before each call, and reports what was kept. No contract sees the gate.
     ///
     /// After every answer but `Did` the worker is out. For want of memory it cancels the future, and for nothing else.
     pub fn step<R: Wait>(&self, rt: &R, desk: &mut Desk<F>) -> Turn

@@ -10,7 +10,7 @@ use crate::{Desk, Engine, Kind, Plan, Turn};
 use qtc_base::{Bytes, Items, List, NoMemory, Range, Value};
 use qtc_future::{FutureCore, Outcome};
 use qtc_ops::{ItemFn, ItemOp, MapOp, OpFn, Pred};
-use qtc_outside::NoGate;
+use qtc_outside::{Gate, NoGate};
 use qtc_shared::Pass;
 use std::alloc::Global;
 use std::process::Abort;
@@ -63,16 +63,14 @@ fn plan_over<'a>(
 }
 
 // A new engine of a plan, with its desks and the caller's pass.
-fn engine_of<'a>(
+pub(crate) fn engine_of<'a, F: ItemFn + Drop, G: Gate>(
     alloc: Global,
     plan: Plan<'a>,
-    functions: Vec<OpFn>,
-    gate: &'a NoGate,
-) -> Result<(Engine<'a, OpFn, NoGate>, Vec<Desk<OpFn>>, Pass<Bytes>), NoMemory>
-    requires { IsPlanned ⟦<OpFn as ItemFn>⟧.value ⟦<OpFn as ItemFn>⟧.called
-        plan.kind plan.items.now plan.workers plan.blocks functions.items }
-    ensures desks { IfOk result (λ made. AreDesks ⟦<OpFn as ItemFn>⟧.value ⟦<OpFn as ItemFn>⟧.called
-        made.0 made.1.items) }
+    functions: Vec<F>,
+    gate: &'a G,
+) -> Result<(Engine<'a, F, G>, Vec<Desk<F>>, Pass<Bytes>), NoMemory>
+    requires { IsPlanned F.value F.called plan.kind plan.items.now plan.workers plan.blocks functions.items }
+    ensures desks { IfOk result (λ made. AreDesks F.value F.called made.0 made.1.items) }
     ensures some { IfOk result (λ made. 0 < length made.1.items) }
     ensures out { IfOk result (λ made. All (λ desk. desk.is_in ≡ false) made.1.items) }
     ensures pass { IfOk result (λ made. made.2.of ≡ made.0.future) }
@@ -119,13 +117,13 @@ fn drive_all<R: Threads + Wait + Sync>(
 }
 
 // Ends an engine whose desks are out: the core of its future, and the calls of its functions.
-fn ended<R: Wait>(
+pub(crate) fn ended<F: ItemFn + Drop, G: Gate, R: Wait>(
     rt: &R,
     alloc: Global,
-    engine: Engine<'_, OpFn, NoGate>,
-    desks: Vec<Desk<OpFn>>,
+    engine: Engine<'_, F, G>,
+    desks: Vec<Desk<F>>,
 ) -> Result<(FutureCore<Bytes>, List<u32>), NoMemory>
-    requires desks { AreDesks ⟦<OpFn as ItemFn>⟧.value ⟦<OpFn as ItemFn>⟧.called engine desks.items }
+    requires desks { AreDesks F.value F.called engine desks.items }
     requires out { All (λ desk. desk.is_in ≡ false) desks.items }
 {
     let finished = engine.finish(rt, alloc, desks)?;
@@ -167,7 +165,7 @@ fn map_plan<'a>(
 }
 
 // What a map comes to, where each byte is an item.
-fn map_all<R: Threads + Wait + Sync + Abort>(
+pub(crate) fn map_all<R: Threads + Wait + Sync + Abort>(
     rt: &R,
     alloc: Global,
     op: MapOp,
@@ -182,10 +180,11 @@ fn map_all<R: Threads + Wait + Sync + Abort>(
     Ok(run_engine(rt, alloc, plan, functions)?)
 }
 
-// The same of a filter for the bytes that are this one.
-fn filter_all<R: Threads + Wait + Sync + Abort>(
+// The same of a filter for the bytes that are this one, or for the others.
+pub(crate) fn filter_all<R: Threads + Wait + Sync + Abort>(
     rt: &R,
     alloc: Global,
+    not: bool,
     byte: u8,
     text: &[u8],
     workers: u32,
@@ -197,7 +196,7 @@ fn filter_all<R: Threads + Wait + Sync + Abort>(
     let items = bytes_of(alloc, text)?;
     assert!(rt; items.len() <= 8_388_608);
     let pred = Pred::Contains(Bytes::from_slice(alloc, &[byte])?);
-    let op = ItemOp::Keep { not: false, pred };
+    let op = ItemOp::Keep { not, pred };
     let (plan, functions) = plan_over(alloc, Kind::Filtered, &op, &items, workers, sizes)?;
     Ok(run_engine(rt, alloc, plan, functions)?)
 }
@@ -218,7 +217,7 @@ fn two_workers_map_many_items(rt: HostRuntime) -> Result<(), Fail> {
 #[test]
 fn two_workers_report_what_keeps_nothing(rt: HostRuntime) -> Result<(), Fail> {
     for _round in 0..50u32 {
-        let (core, calls) = filter_all(&rt, rt.alloc(), b'x', b"aaxaaaaxbbx", 2, &[2])?;
+        let (core, calls) = filter_all(&rt, rt.alloc(), false, b'x', b"aaxaaaaxbbx", 2, &[2])?;
         assert_eq!(rt; calls.len(), 11);
         assert_eq!(rt; core.journal().len(), 8);
         assert!(rt; gives(core, b"xxx")?);

@@ -13,7 +13,7 @@ pub placed-requires-clause-fits : goal.placed-requires-clause-fits
 placed-requires-clause-fits g c κs within =
     let plan = c.args.plan in
     let core = start_opens (is_filter plan.kind) plan.cancel_after plan.suspend_after c.start.new.self (Effect c.start.result)
-    (subst (λ (f : Future (List ℕ)). IsStep (step f 0 Start) c.start.new.self (Effect c.start.result)) (c.in_ok-core.ensures ∙ ap (λ b. new_future b plan.cancel_after plan.suspend_after) c.is_filtered.ensures) c.start.ensures) in
+    (subst (λ (f : Future (List ℕ)). IsStep (step f 0 Start) c.start.new.self (Effect c.start.result)) (c.in_ok-core.ensures ∙ ap (λ b. new_future b plan.cancel_after plan.suspend_after) c.is_filter.ensures) c.start.ensures) in
     made_board g.F.ItemFn.value g.F.ItemFn.called plan.kind plan.items.now plan.workers plan.blocks c.args.functions.items c.requires plan.cancel_after plan.suspend_after
     c.start.new.self core c.in_ok-future.future c.in_ok-future.passes.items c.in_ok-future.ensures
     c.pop.new.self.items c.pop.result c.unwrap-caller.result c.pop.ensures.items c.unwrap-caller.ensures
@@ -24,7 +24,7 @@ pub invariant_of-engine : goal.invariant_of-engine
 invariant_of-engine g c =
     let plan = c.args.plan in
     let core = start_opens (is_filter plan.kind) plan.cancel_after plan.suspend_after c.start.new.self (Effect c.start.result)
-    (subst (λ (f : Future (List ℕ)). IsStep (step f 0 Start) c.start.new.self (Effect c.start.result)) (c.in_ok-core.ensures ∙ ap (λ b. new_future b plan.cancel_after plan.suspend_after) c.is_filtered.ensures) c.start.ensures) in
+    (subst (λ (f : Future (List ℕ)). IsStep (step f 0 Start) c.start.new.self (Effect c.start.result)) (c.in_ok-core.ensures ∙ ap (λ b. new_future b plan.cancel_after plan.suspend_after) c.is_filter.ensures) c.start.ensures) in
     let fits = made_fits g.F.ItemFn.value g.F.ItemFn.called plan.kind plan.items.now plan.workers plan.blocks c.args.functions.items c.requires plan.cancel_after plan.suspend_after
     c.start.new.self core c.in_ok-future.future c.in_ok-future.passes.items c.in_ok-future.ensures
     c.pop.new.self.items c.pop.result c.unwrap-caller.result c.pop.ensures.items c.unwrap-caller.ensures
@@ -49,7 +49,7 @@ pub returns : goal.returns
 returns g c =
     let plan = c.args.plan in
     let core = start_opens (is_filter plan.kind) plan.cancel_after plan.suspend_after c.start.new.self (Effect c.start.result)
-    (subst (λ (f : Future (List ℕ)). IsStep (step f 0 Start) c.start.new.self (Effect c.start.result)) (c.in_ok-core.ensures ∙ ap (λ b. new_future b plan.cancel_after plan.suspend_after) c.is_filtered.ensures) c.start.ensures) in
+    (subst (λ (f : Future (List ℕ)). IsStep (step f 0 Start) c.start.new.self (Effect c.start.result)) (c.in_ok-core.ensures ∙ ap (λ b. new_future b plan.cancel_after plan.suspend_after) c.is_filter.ensures) c.start.ensures) in
     made_engine g.F.ItemFn.value g.F.ItemFn.called plan.kind plan.items.now plan.workers plan.blocks c.args.functions.items c.requires plan.cancel_after plan.suspend_after
     c.start.new.self core c.in_ok-future.future c.in_ok-future.passes.items c.in_ok-future.ensures
     c.pop.new.self.items c.pop.result c.unwrap-caller.result c.pop.ensures.items c.unwrap-caller.ensures

@@ -14,4 +14,4 @@ all_out crew from (desk ∷ desks) fresh =
     All-cons (λ d. d.is_in ≡ false) desk desks (fresh 0 (omega arith)).out (all_out crew (λ number. from (suc number)) desks (λ number less. fresh (suc number) (omega arith)))
 
 pub returns-clause-out : goal.returns-clause-out
-returns-clause-out c = ok_weaker _ _ (λ made is. all_out _ (λ number. number) made.1.items is.fresh) c.new.result c.new.ensures
+returns-clause-out g c = ok_weaker _ _ (λ made is. all_out _ (λ number. number) made.1.items is.fresh) c.new.result c.new.ensures

@@ -146,9 +146,11 @@ impl<K: Send + Drop> Pool<K> {
     pub fn close<R: Wait>(self, rt: &R) -> PoolCore<K>
         ensures first { result.first ≡ self.first }
         ensures replays { Replays result }
+        ensures few { (0 < result.first) × (result.first ≤ most_threads) }
     {
         let Pool { lock, bell: _ } = self;
         let Guarded { core } = lock.close(rt);
+        let core = Box::into_inner(core);
         let _journal = core.journal();
         core
     }

@@ -118,6 +118,16 @@ fn a_task_is_taken_back_once(rt: HostRuntime) -> Result<(), Fail> {
     assert_eq!(rt; again, Err(StartFault::SameId(Job::Nothing { id: 9 })));
     pool.clear(&rt);
     assert_eq!(rt; pool.try_take(&rt, 1), None);
+    let want = [3, 1, 2, 4].map(|id| PoolEntry::TookBack { id });
+    assert_eq!(rt; pool.close(&rt).journal().get(4..), Some(want.as_slice()));
+    Ok(())
+}
+
+#[test]
+fn what_waits_is_in_the_core_of_a_closed_pool(rt: HostRuntime) -> Result<(), Fail> {
+    let mut core = filled(&rt, rt.alloc())?.close(&rt);
+    assert_eq!(rt; core.take_next(), Some((2, Job::Nothing { id: 2 })));
+    assert_eq!(rt; core.journal().len(), 5);
     Ok(())
 }
 

@@ -9,3 +9,4 @@ pub mod Replay
 pub mod Cleared
 pub mod Firsts
 pub mod Lawful
+pub mod Within

@@ -76,6 +76,7 @@ owed waiting running starts = 2 * waiting + running + 3 * starts
 pub record IsKept {K Y Z : Type 0} (core : Core K) (row : Row K) (running : Vec ℕ Y) (journal : Vec PoolEntry Z)
     : Type 0 where
   pub replays : Replays core
+  pub began : (0 < core.first) × (core.first ≤ most_threads)
   pub few : length core.running ≤ most_threads
   pub most : (0 < core.max) × (core.max ≤ most_threads)
   pub bounded : core.reserved ≤ most_reserved

@@ -1,8 +1,8 @@
 -- What the machine of a pool comes to, in other words. (Own.)
-use Rattle.std.specs.Prelude.{ℕ, ◌≡◌, ◌≤◌, ◌+◌, ◌==◌, ◌↔◌, ◌<ℤ◌, ◌≤ℤ◌, Bool, false, if◌then◌else◌, List, [], ◌∷◌, ◌++◌, Some, None, length, map, All, IsTrue}
+use Rattle.std.specs.Prelude.{ℕ, ◌≡◌, ◌≤◌, ◌<◌, ◌+◌, ◌==◌, ◌↔◌, ◌<ℤ◌, ◌≤ℤ◌, Bool, false, if◌then◌else◌, List, [], ◌∷◌, ◌++◌, Some, None, length, map, All, IsTrue}
 use Rattle.qtc_pool_core.specs.declared.entries.PoolEntry.{PoolEntry}
 use Rattle.qtc_pool_core.specs.declared.entries.PoolEntry.TheVariants.{Started, Tried, Took, TookBack, Done}
-use Rattle.qtc_pool_core.specs.Machine.{Pool, Ticket, empty, head_of, is_running, may_run, most_threads, step}
+use Rattle.qtc_pool_core.specs.Machine.{Pool, Ticket, empty, head_of, is_running, may_run, most_reserved, most_threads, step}
 use Rattle.qtc_pool_core.specs.Runs.{run_of}
 
 -- no task before it has its priority, and none of the queue a greater one
@@ -36,6 +36,18 @@ abbrev pub RunsAreLawful : Type 0
 RunsAreLawful =
     (most : ℕ) (entries : List PoolEntry) (pool : Pool) → most ≤ most_threads
     → run_of (empty most) entries ≡ Some pool → IsLawful pool
+
+-- the limit is that of some threads, and of no more than a pool may have, nor are more reserved than may be
+pub record IsWithinLimits (pool : Pool) : Type 0 where
+  pub some : 0 < pool.max
+  pub few : pool.max ≤ most_threads
+  pub bounded : pool.reserved ≤ most_reserved
+
+-- so it is whatever entries led there
+abbrev pub LimitsHold : Type 0
+LimitsHold =
+    (most : ℕ) (entries : List PoolEntry) (pool : Pool) → 0 < most → most ≤ most_threads
+    → run_of (empty most) entries ≡ Some pool → IsWithinLimits pool
 
 -- what begins to run does not run yet, and may
 pub record TasksRunOnce : Type 0 where

@@ -13,6 +13,8 @@ mod tests;
 
 pub use entries::PoolEntry;
 pub use faults::{ReleaseFault, ReserveFault, StartFault, TryFault};
-pub use laws::{heads_are_first, runs_are_lawful, tasks_are_accounted, tasks_run_once};
+pub use laws::{
+    heads_are_first, limits_hold, runs_are_lawful, tasks_are_accounted, tasks_run_once,
+};
 pub use limits::{MOST_RESERVED, MOST_THREADS, limits_are_as_told};
 pub use pool_core::PoolCore;

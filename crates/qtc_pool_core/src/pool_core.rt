@@ -62,7 +62,7 @@ impl<K> PoolCore<K> {
     ghost use Rattle.std.specs.Prelude.{◌≡◌, ◌≢◌, ◌≤◌, ◌<◌, ◌↔◌, ◌⊎◌, true, false, Some, None, IfSome, IfNone, IsSome, IsTrue, OnSome, [], length};
     ghost use Rattle.std.specs.Bool.{OnTrue, OnFalse};
     ghost use Rattle.qtc_pool_core.specs.Core.{new_core, pool_of, without, work_of, Replays};
-    ghost use Rattle.qtc_pool_core.specs.Machine.{is_known, is_running, may_run, most_threads};
+    ghost use Rattle.qtc_pool_core.specs.Machine.{is_known, is_running, may_run, most_reserved, most_threads};
     ghost use Rattle.qtc_pool_core.specs.Steps.{Steps};
     ghost use Rattle.qtc_pool_core.specs.Inside.{owed};
     ghost use Rattle.qtc_pool_core.specs.declared.entries.PoolEntry.TheVariants as entry;
@@ -93,22 +93,25 @@ impl<K> PoolCore<K> {
 
     /// How many threads are reserved.
     pub fn reserved(&self) -> u32
-        ensures { result ≡ self.now.reserved }
+        ensures count { result ≡ self.now.reserved }
+        ensures few { result ≤ most_reserved }
     {
         self.reserved
     }
 
     /// How many threads the pool may have.
     pub fn max(&self) -> u32
-        ensures { result ≡ self.now.max }
+        ensures limit { result ≡ self.now.max }
+        ensures few { (0 < result) × (result ≤ most_threads) }
     {
         self.max
     }
 
-    /// What was done, in order: from an empty pool of the first limit it leaves this pool.
+    /// What was done, in order: from an empty pool of the first limit, which is 1 to 1,024, it leaves this pool.
     pub fn journal(&self) -> &[PoolEntry]
         ensures journal { result.now ≡ self.now.journal }
         ensures replays { Replays self.now }
+        ensures few { (0 < self.now.first) × (self.now.first ≤ most_threads) }
     {
         self.journal.as_slice()
     }

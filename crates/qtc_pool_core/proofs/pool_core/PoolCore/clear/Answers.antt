@@ -24,6 +24,7 @@ invariant_of-self g c =
     let count = length-map (tasks_in slots) (λ (task : Task g.row.K.Denot). TookBack task.id) in
     record {
       replays = subst (λ (tasks : List (Task g.row.K.Denot)). run_of (empty c.self.inside.first) c.take_back.new.journal.items ≡ Some (state (tickets tasks) running c.self.inside.reserved c.self.inside.max)) (sym c.clear.ensures.tasks) cleared;
+      began = inv.began;
       few = inv.few;
       most = inv.most;
       bounded = inv.bounded;

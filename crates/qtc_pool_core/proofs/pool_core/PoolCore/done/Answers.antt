@@ -13,6 +13,7 @@ invariant_of-self g c =
     let less = fewer_run id c.self.inside.running.items ran in
     record {
       replays = replays-step _ _ _ _ _ (Done id) inv.replays (step-done _ _ _ _ _ id ran c.remove_id.ensures.items) c.push_reserved.ensures.items;
+      began = inv.began;
       few = omega (arith, fewer, less, inv.few);
       most = inv.most;
       bounded = inv.bounded;

@@ -21,6 +21,7 @@ invariant_of-self g c =
     let items : c.push_reserved.new.self.items ≡ c.self.inside.journal.items ++ Started task.id task.priority ∷ [] = rw (to_z-of_z w32 task.priority fits) at c.push_reserved.ensures.items in
     record {
       replays = replays-step _ _ _ _ _ (Started task.id task.priority) inv.replays (step-started _ _ _ _ _ task free after) items;
+      began = inv.began;
       few = inv.few;
       most = inv.most;
       bounded = inv.bounded;

@@ -9,6 +9,7 @@ invariant_of-self-2 g c =
     let some : 0 < c.self.inside.reserved = omega arith in
     record {
       replays = replays-step _ _ _ _ _ Released inv.replays (may_stand _ _ (lt-ltb 0 c.self.inside.reserved some)) (entered _ _ _ _ c.push_reserved.ensures.items c.in-Ok.ensures.items);
+      began = inv.began;
       few = inv.few;
       most = inv.most;
       bounded = omega (arith, inv.bounded);

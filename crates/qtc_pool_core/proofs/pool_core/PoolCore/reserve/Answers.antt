@@ -10,6 +10,7 @@ invariant_of-self-2 g c =
     let below : c.self.inside.reserved < most_reserved = omega (arith, inv.bounded) in
     record {
       replays = replays-step _ _ _ _ _ Reserved inv.replays (may_stand _ _ (lt-ltb c.self.inside.reserved most_reserved below)) (entered _ _ _ _ c.push_reserved.ensures.items c.in-Ok.ensures.items);
+      began = inv.began;
       few = inv.few;
       most = inv.most;
       bounded = omega (arith, below);

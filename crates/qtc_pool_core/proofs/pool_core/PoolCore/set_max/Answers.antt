@@ -11,6 +11,7 @@ invariant_of-self-2 g c =
     let most = c.args.max in
     record {
       replays = replays-step _ _ _ _ _ (MaxSet most) inv.replays (may_stand _ _ (and_from _ _ (lt-ltb 0 most c.requires.0) (le-leb most most_threads c.requires.1))) (entered _ _ _ _ c.push_reserved.ensures.items c.in_ok-reserve_entries.ensures.items);
+      began = inv.began;
       few = inv.few;
       most = c.requires;
       bounded = inv.bounded;

@@ -19,6 +19,7 @@ invariant_of-self-2 g c =
     let few = few_run (tickets queue) c.self.inside.running.items c.self.inside.reserved c.self.inside.max inv.most.1 may in
     record {
       replays = replays-step _ _ _ _ _ (Took task.id) inv.replays (step-took _ _ _ _ _ _ task (sym c.in-Some.ensures.head) may c.in-Some.ensures.rest c.push_reserved.ensures.items) c.push_reserved-2.ensures.items;
+      began = inv.began;
       few = omega (arith, few, more);
       most = inv.most;
       bounded = inv.bounded;

@@ -18,6 +18,7 @@ invariant_of-self-2 g c =
     let few = few_run (tickets (tasks_in c.self.inside.queue.slots)) running c.self.inside.reserved c.self.inside.max inv.most.1 may in
     record {
       replays = replays-step _ _ _ _ _ (Tried id) inv.replays (step-tried _ _ _ _ _ id free may runs) (entered _ _ _ _ c.push_reserved-2.ensures.items c.in-Ok.ensures.items);
+      began = inv.began;
       few = omega (arith, few, more);
       most = inv.most;
       bounded = inv.bounded;

@@ -15,6 +15,7 @@ invariant_of-self-2 g c =
     let less = fewer_wait id queue work waits in
     record {
       replays = replays-step _ _ _ _ _ (TookBack id) inv.replays (step-took_back _ _ _ _ _ id work waits c.in-Some.ensures.rest) c.push_reserved.ensures.items;
+      began = inv.began;
       few = inv.few;
       most = inv.most;
       bounded = inv.bounded;

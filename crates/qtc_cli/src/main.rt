@@ -7,7 +7,7 @@ use refusals::Refusal;
 use run::run_words;
 use std::alloc::Global;
 use std::process::ExitCode;
-use std::{env, io};
+use std::{env, io, mem};
 
 mod check;
 mod command_forms;
@@ -40,7 +40,11 @@ fn main(rt: HostRuntime) -> ExitCode {
     let status = match words_of(&rt, alloc) {
         Ok(words) => {
             let mut texts = FileTexts::new(&rt);
-            run_words(&rt, alloc, &words, &mut texts, &mut out, &mut err, &NoGate).status
+            let ended = run_words(&rt, alloc, &words, &mut texts, &mut out, &mut err, &NoGate);
+            let status = ended.status;
+            // The system takes back all memory at once: to free the values one by one would only take time.
+            mem::forget(ended);
+            status
         }
         Err(fault) => refuse(alloc, refusal_of(&fault), &mut err),
     };

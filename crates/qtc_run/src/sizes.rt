@@ -17,14 +17,33 @@ pub struct Size {
     pub bytes: u64,
 }
 
-/// How many LF a text has: one test a byte, without a branch.
+/// The bytes that are counted at once: so few that one byte holds their count, so that the test of many bytes is one step
+/// of the processor.
+const BLOCK: usize = 128;
+
+/// How many LF a block has.
+fn block_feeds(block: &[u8]) -> u8
+    requires { length block.now ≤ 128 }
+    ensures { result ≡ count_by (λ byte. byte == 10) block.now }
+{
+    let mut count = 0;
+    for byte in block {
+        count += (*byte == b'\n') as u8;
+    }
+    count
+}
+
+/// How many LF a text has.
 fn feed_count(text: &[u8]) -> u64
     ensures count { result ≡ count_by (λ byte. byte == 10) text.now }
     ensures few { result ≤ length text.now }
 {
     let mut count = 0;
-    for byte in text {
-        count += (*byte == b'\n') as u64;
+    let mut rest = text;
+    while !rest.is_empty() {
+        let (block, others) = rest.split_at(BLOCK.min(rest.len()));
+        count += u64::from(block_feeds(block));
+        rest = others;
     }
     count
 }

@@ -1,4 +1,4 @@
-use Rattle.std.proofs.Common.{◌≡◌, ℕ, suc, ◌<◌, List, [], ◌∷◌, Option, None, Some, IfSome, All, false, length, slice_get, Result, Ok, Err, IfOk, arith}
+use Rattle.std.proofs.Common.{◌≡◌, ℕ, suc, ◌<◌, List, [], ◌∷◌, IfSome, All, false, length, slice_get, Result, Ok, Err, IfOk, arith}
 use Rattle.std.proofs.lemmas.List.Elements.{All-cons, All-nil}
 use Rattle.qtc_kernel.specs.Crews.{Crew, DeskState, IsNewDesk}
 use Rattle.qtc_kernel.proofs.tests.engines.engine_of.Goals as goal

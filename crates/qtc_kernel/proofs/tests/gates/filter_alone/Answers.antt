@@ -1,12 +1,12 @@
-use Rattle.std.proofs.Common.{◌≡◌, ◌∷◌, ◌++◌, ◌∙◌, ℕ, List, [], All, true, false, ap, sym, subst, refl, arith}
+use Rattle.std.proofs.Common.{◌≡◌, ◌∷◌, ◌++◌, ◌∙◌, ℕ, List, [], ap, sym, subst, refl, arith}
 use Rattle.std.proofs.lemmas.List.Elements.{All-cons, All-nil}
 use Rattle.qtc_kernel.specs.Crews.{IsPlanned}
 use Rattle.qtc_kernel.specs.Driving.{AreSizes}
 use Rattle.qtc_kernel.specs.declared.kinds.Kind.TheVariants.{Filtered}
 use Rattle.qtc_kernel.proofs.tests.gates.filter_alone.Goals as goal
 
-pub engine_of-requires : goal.engine_of-requires
-engine_of-requires g c =
+pub engine_of-requires-after_bounds : goal.engine_of-requires-after_bounds
+engine_of-requires-after_bounds g c κs within =
     let value = g.F.ItemFn.value in
     let called = g.F.ItemFn.called in
     let function = c.args.function in

@@ -1,5 +1,5 @@
 -- The limits of a pool after any run of entries.
-use Rattle.std.proofs.Common.{◌≡◌, ℕ, ◌+◌, ◌-◌, ◌<◌, ◌≤◌, ◌&&◌, not, nat_lt, nat_le, List, [], ◌∷◌, Option, Some, None, refl, arith, subst, leb-true}
+use Rattle.std.proofs.Common.{◌≡◌, ◌+◌, ◌-◌, ◌&&◌, not, nat_lt, nat_le, List, [], ◌∷◌, Option, Some, None, refl, arith, subst, leb-true}
 use Rattle.std.specs.Option.{option_and_then}
 use Rattle.std.proofs.lemmas.Bool.{and_parts, ltb-true}
 use Rattle.std.proofs.lemmas.Option.{same_Some}

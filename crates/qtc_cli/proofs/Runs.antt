@@ -17,7 +17,7 @@ use Rattle.qtc_job.specs.declared.jobs.Job.{Job}
 use Rattle.qtc_kernel.specs.Workload.{bad_indexes}
 use Rattle.qtc_run.specs.Loaded.{most_text}
 use Rattle.qtc_run.specs.Laws.{GoodJobsFinish}
-use Rattle.qtc_run.specs.Reports.{AreReports, IsReport, has_failed, is_unfinished}
+use Rattle.qtc_run.specs.Reports.{AreReports, has_failed, is_unfinished}
 use Rattle.qtc_run.specs.Runnable.{are_runnable}
 use Rattle.qtc_run.specs.Sources.{Texts, items_of, items_of_all, work_of}
 use Rattle.qtc_run.specs.Sums.{items_up_to, RefusesRun as JobsStop}

@@ -192,76 +192,6 @@ const CASES: &[Case] = &[
         },
     },
     Case {
-        words: &[],
-        row: Row {
-            file: SAME,
-            texts: &[],
-            status: 2,
-            out: b"",
-            err: USAGE,
-        },
-    },
-    Case {
-        words: &["run"],
-        row: Row {
-            file: SAME,
-            texts: &[],
-            status: 2,
-            out: b"",
-            err: USAGE,
-        },
-    },
-    Case {
-        words: &["run", "a", "b"],
-        row: Row {
-            file: SAME,
-            texts: &[],
-            status: 2,
-            out: b"",
-            err: USAGE,
-        },
-    },
-    Case {
-        words: &["run", "--workers", "0", "j"],
-        row: Row {
-            file: SAME,
-            texts: &[],
-            status: 2,
-            out: b"",
-            err: USAGE,
-        },
-    },
-    Case {
-        words: &["run", "--workers", "33", "j"],
-        row: Row {
-            file: SAME,
-            texts: &[],
-            status: 2,
-            out: b"",
-            err: USAGE,
-        },
-    },
-    Case {
-        words: &["run", "--workers", "4"],
-        row: Row {
-            file: SAME,
-            texts: &[],
-            status: 2,
-            out: b"",
-            err: USAGE,
-        },
-    },
-    Case {
-        words: &["sample", "0"],
-        row: Row {
-            file: SAME,
-            texts: &[],
-            status: 2,
-            out: b"",
-            err: USAGE,
-        },
-    },
-    Case {
         words: CHECK,
         row: Row {
             file: b"job a\n",
@@ -283,6 +213,26 @@ const CASES: &[Case] = &[
         },
     },
 ];
+
+/// Words that have no form.
+const WITHOUT_FORM: &[&[&str]] = &[
+    &[],
+    &["run"],
+    &["run", "a", "b"],
+    &["run", "--workers", "0", "j"],
+    &["run", "--workers", "33", "j"],
+    &["run", "--workers", "4"],
+    &["sample", "0"],
+];
+
+/// How a call with them ends.
+const USAGE_IS_TOLD: Row = Row {
+    file: SAME,
+    texts: &[],
+    status: 2,
+    out: b"",
+    err: USAGE,
+};
 
 /// Whether a call with these words over the job file and its texts ends as it should.
 fn ends_as<R: Threads + Wait + Sync>(
@@ -306,6 +256,12 @@ fn words_and_job_files_end_as_they_should(rt: HostRuntime) -> Result<(), Fail> {
         assert!(rt;
             ends_as(&rt, rt.alloc(), case.words, &case.row)?,
             "case {place}"
+        );
+    }
+    for (place, words) in WITHOUT_FORM.iter().enumerate() {
+        assert!(rt;
+            ends_as(&rt, rt.alloc(), words, &USAGE_IS_TOLD)?,
+            "words {place}"
         );
     }
     Ok(())

@@ -4,6 +4,7 @@ ghost use Rattle.qtc_kernel.specs.Driving.{AreSizes};
 mod engines;
 mod gates;
 mod one_worker;
+mod suspensions;
 
 use qtc_base::{Bytes, Items, NoMemory};
 use qtc_future::{FutureCore, Outcome};

@@ -79,10 +79,14 @@ pub(crate) fn engine_of<'a, F: ItemFn + Drop, G: Gate>(
 }
 
 // Works with a desk until an answer other than Did.
-fn drive<R: Wait>(rt: &R, engine: &Engine<'_, OpFn, NoGate>, desk: &mut Desk<OpFn>)
-    requires desk { IsDesk ⟦<OpFn as ItemFn>⟧.value ⟦<OpFn as ItemFn>⟧.called engine.now desk.old }
+pub(crate) fn drive<F: ItemFn, G: Gate, R: Wait>(
+    rt: &R,
+    engine: &Engine<'_, F, G>,
+    desk: &mut Desk<F>,
+)
+    requires desk { IsDesk F.value F.called engine.now desk.old }
     requires out { desk.old.is_in ≡ false }
-    ensures desk { IsDesk ⟦<OpFn as ItemFn>⟧.value ⟦<OpFn as ItemFn>⟧.called engine.now desk.new }
+    ensures desk { IsDesk F.value F.called engine.now desk.new }
     ensures out { desk.new.is_in ≡ false }
 {
     engine.enter(desk);
@@ -96,15 +100,15 @@ fn drive<R: Wait>(rt: &R, engine: &Engine<'_, OpFn, NoGate>, desk: &mut Desk<OpF
 }
 
 // Works with each desk in a thread of its own.
-fn drive_all<R: Threads + Wait + Sync>(
+fn drive_all<F: ItemFn, G: Gate, R: Threads + Wait + Sync>(
     rt: &R,
-    engine: &Engine<'_, OpFn, NoGate>,
-    desks: &mut Vec<Desk<OpFn>>,
+    engine: &Engine<'_, F, G>,
+    desks: &mut Vec<Desk<F>>,
 )
-    requires desks { AreDesks ⟦<OpFn as ItemFn>⟧.value ⟦<OpFn as ItemFn>⟧.called engine.now desks.old.items }
+    requires desks { AreDesks F.value F.called engine.now desks.old.items }
     requires some { 0 < length desks.old.items }
     requires out { All (λ desk. desk.is_in ≡ false) desks.old.items }
-    ensures desks { AreDesks ⟦<OpFn as ItemFn>⟧.value ⟦<OpFn as ItemFn>⟧.called engine.now desks.new.items }
+    ensures desks { AreDesks F.value F.called engine.now desks.new.items }
     ensures out { All (λ desk. desk.is_in ≡ false) desks.new.items }
 {
     let threads = desks.len();
@@ -112,7 +116,14 @@ fn drive_all<R: Threads + Wait + Sync>(
         rt,
         desks,
         threads,
-        &|_, desk: &mut Desk<OpFn>| drive(rt, engine, desk),
+        &|_, desk: &mut Desk<F>|
+            requires desk { IsDesk F.value F.called engine.now desk.old }
+            requires out { desk.old.is_in ≡ false }
+            ensures desk { IsDesk F.value F.called engine.entry.now desk.new }
+            ensures out { desk.new.is_in ≡ false }
+        {
+            drive(rt, engine, desk);
+        },
     );
 }
 
@@ -147,7 +158,7 @@ fn run_engine<R: Threads + Wait + Sync>(
 }
 
 // A plan of a map.
-fn map_plan<'a>(
+pub(crate) fn map_plan<'a>(
     rt: &impl Abort,
     alloc: Global,
     op: MapOp,
@@ -282,22 +293,23 @@ fn one_turn<R: Wait>(rt: &R, engine: &Engine<'_, OpFn, NoGate>, desk: &mut Desk<
     engine.step(rt, desk)
 }
 
-// So many turns at the first desk.
+// So many turns at the desk at a place.
 fn turns_of<R: Wait>(
     rt: &R,
     alloc: Global,
     engine: &Engine<'_, OpFn, NoGate>,
     desks: &mut Vec<Desk<OpFn>>,
+    place: usize,
     count: u32,
 ) -> Result<Vec<Turn>, NoMemory>
     requires desks { All (IsDesk ⟦<OpFn as ItemFn>⟧.value ⟦<OpFn as ItemFn>⟧.called engine.now) desks.old.items }
-    requires some { 0 < length desks.old.items }
+    requires place { place < length desks.old.items }
     ensures desks { All (IsDesk ⟦<OpFn as ItemFn>⟧.value ⟦<OpFn as ItemFn>⟧.called engine.now) desks.new.items }
-    ensures some { 0 < length desks.new.items }
+    ensures place { place < length desks.new.items }
 {
     let mut turns = Vec::new(alloc);
     for _turn in 0..count {
-        turns.push(one_turn(rt, engine, &mut desks[0]))?;
+        turns.push(one_turn(rt, engine, &mut desks[place]))?;
     }
     Ok(turns)
 }
@@ -319,11 +331,26 @@ fn a_worker_tells_each_turn(rt: HostRuntime) -> Result<(), Fail> {
     let (plan, functions) = map_plan(&rt, alloc, MapOp::Number, &items, 1, &[2])?;
     let (engine, mut desks, pass) = engine_of(alloc, plan, functions, &NoGate)?;
     assert!(rt; may_start(&engine, &mut desks));
-    let turns = turns_of(&rt, alloc, &engine, &mut desks, 3)?;
+    let turns = turns_of(&rt, alloc, &engine, &mut desks, 0, 3)?;
     let first = Turn::Did(Range { begin: 0, end: 2 });
     assert!(rt; turns.as_slice() == [first, Turn::Failed(2), Turn::SawCanceled].as_slice());
     assert!(rt; !may_start(&engine, &mut desks));
     assert_eq!(rt; engine.close(&rt, pass).count(), 2);
+    Ok(())
+}
+
+// A further worker is asked for while one of the two is out, and not once both are in.
+#[test]
+fn a_worker_is_asked_for_until_all_are_in(rt: HostRuntime) -> Result<(), Fail> {
+    let alloc = rt.alloc();
+    let items = bytes_of(alloc, b"abcdef")?;
+    let (plan, functions) = map_plan(&rt, alloc, MapOp::Same, &items, 2, &[1])?;
+    let (engine, mut desks, _pass) = engine_of(alloc, plan, functions, &NoGate)?;
+    assert!(rt; desks.len() == 2);
+    turns_of(&rt, alloc, &engine, &mut desks, 1, 2)?;
+    assert!(rt; may_start(&engine, &mut desks));
+    turns_of(&rt, alloc, &engine, &mut desks, 0, 2)?;
+    assert!(rt; !may_start(&engine, &mut desks));
     Ok(())
 }
 

@@ -6,5 +6,5 @@ use Rattle.qtc_kernel.proofs.tests.engines.turns_of.Given as goal
 abbrev pub invariant-loop-turn : goal.invariant-loop-turn
 invariant-loop-turn g l = record {
   desks : All (IsDesk value-value.it called-value.it l.engine) l.desks.items;
-  some : 0 < length l.desks.items;
+  place : l.place < length l.desks.items;
 }

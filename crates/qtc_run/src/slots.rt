@@ -1,5 +1,5 @@
 //! The tasks of the pool: which worker of which job.
-ghost use Rattle.std.specs.Prelude.{◌≡◌, ◌+◌, ◌*◌, ◌<◌, ◌≤◌};
+ghost use Rattle.std.specs.Prelude.{MatchOption, ◌≡◌, ◌+◌, ◌*◌, ◌<◌, ◌≤◌};
 
 use crate::crowds::Worker;
 use qtc_base::NoMemory;
@@ -24,6 +24,8 @@ impl Slot {
         requires workers { (1 ≤ workers) × (workers ≤ 32) }
         ensures job { result.job ≡ job }
         ensures slot { result.slot ≡ 0 }
+        ensures priority { result.priority ≡ priority }
+        ensures workers { result.workers ≡ workers }
     {
         Slot {
             job,
@@ -48,7 +50,11 @@ impl Slot {
     }
 
     /// The next slot of the job, where there is one.
-    fn next(&self) -> Option<Slot> {
+    fn next(&self) -> Option<Slot>
+        ensures { MatchOption result (self.now.workers ≤ self.now.slot + 1)
+            (λ next. (next.job ≡ self.now.job) × (next.slot ≡ self.now.slot + 1)
+            × (next.priority ≡ self.now.priority) × (next.workers ≡ self.now.workers)) }
+    {
         if self.slot + 1 < self.workers {
             return Some(Slot {
                 job: self.job,

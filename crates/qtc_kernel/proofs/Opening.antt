@@ -19,7 +19,7 @@ use Rattle.qtc_shared.specs.Journals.{BeginsWith, calls_by}
 use Rattle.qtc_shared.specs.Parts.{Terms}
 use Rattle.qtc_shared.specs.Passes.{FutureId, IsShared, PassState, pass_at}
 use Rattle.qtc_shared.proofs.Prefixes.{begins_same}
-use Rattle.qtc_kernel.specs.Crews.{Crew, DeskState, IsBoard, IsCrew, IsDesk, IsEngineOf, IsNewDesk, IsOfPiece, IsOwnCall, IsPlanned, crew_with, desks_with, opening, plan_terms, ranges_by, reporter, value_by, work_of}
+use Rattle.qtc_kernel.specs.Crews.{Crew, DeskState, IsBoard, IsCrew, IsDesk, IsEngineOf, IsNewDesk, IsOfPiece, IsOpened, IsOwnCall, IsPlanned, crew_with, desks_with, opening, plan_terms, ranges_by, reporter, value_by, work_of}
 use Rattle.qtc_kernel.specs.Driving.{is_filter, own_entry}
 use Rattle.qtc_kernel.specs.Workload.{Suits}
 use Rattle.qtc_kernel.specs.declared.kinds.Kind.{Kind}
@@ -64,6 +64,36 @@ popped_others f all left taken x is taken_is each i within =
 
 pub popped_length : {X : Type 0} (all left : List X) (taken : Option X) (x : X) → all ≡ left ++ option_to_list taken → taken ≡ Some x → length all ≡ length left + 1
 popped_length all left taken x is taken_is = ap length (is ∙ ap (λ o. left ++ option_to_list o) taken_is) ∙ length-append left (x ∷ [])
+
+-- ---- the future
+
+module _ (kind : Kind) (cancel_after suspend_after workers : ℕ) (core : Future (List ℕ)) (core_is : core ≡ opened_with (is_filter kind) cancel_after suspend_after)
+    (future : FutureId) (all : List (PassState (List ℕ))) (shared : IsShared core (workers + 1) (workers + 2) future all)
+    (first : List (PassState (List ℕ))) (taken : Option (PassState (List ℕ))) (caller : PassState (List ℕ)) (all_are : all ≡ first ++ option_to_list taken) (taken_is : taken ≡ Some caller)
+    (left : List (PassState (List ℕ))) (taken' : Option (PassState (List ℕ))) (reporting : PassState (List ℕ)) (first_are : first ≡ left ++ option_to_list taken') (taken'_is : taken' ≡ Some reporting) where
+  abbrev numbered : ℕ → PassState (List ℕ)
+  numbered number = pass_at future number opening
+
+  all_numbered : (number : ℕ) → number < length all → slice_get all number ≡ Some (numbered number)
+  all_numbered number within = let count = shared.count_is in shared.each number (omega arith) ∙ ap (λ (f : Future (List ℕ)). Some (pass_at future number f.calls)) core_is
+
+  first_long : length first ≡ workers + 1
+  first_long = let long = popped_length all first taken caller all_are taken_is in let count = shared.count_is in omega arith
+
+  left_long : length left ≡ workers
+  left_long = let long = popped_length first left taken' reporting first_are taken'_is in let count = first_long in omega arith
+
+  first_numbered : (number : ℕ) → number < length first → slice_get first number ≡ Some (numbered number)
+  first_numbered = popped_others numbered all first taken caller all_are taken_is all_numbered
+
+  pub future_opens : IsOpened (plan_terms kind cancel_after suspend_after workers) workers future left reporting caller
+  future_opens = record {
+    terms_are = shared.terms ∙ ap (λ (f : Future (List ℕ)). record { filter = f.filter; thresholds = f.thresholds; makers = workers + 1 }) core_is;
+    count = left_long;
+    each = λ number within. let count = left_long in popped_others numbered first left taken' reporting first_are taken'_is first_numbered number (omega arith);
+    reporting_is = popped_last numbered first left taken' reporting first_are taken'_is first_numbered ∙ ap numbered left_long;
+    caller_is = popped_last numbered all first taken caller all_are taken_is all_numbered ∙ ap numbered first_long;
+  }
 
 -- ---- the board
 
@@ -166,74 +196,45 @@ module _ {F : Type 0} (value : F → List ℕ → ItemValue) (called : F → Lis
 -- ---- the engine
 
 module _ {F : Type 0} (value : F → List ℕ → ItemValue) (called : F → List ℕ) (kind : Kind) (items : List (List ℕ)) (workers : ℕ) (sizes : List ℕ) (functions : List F) (planned : IsPlanned value called kind items workers sizes functions) (cancel_after suspend_after : ℕ)
-    (core : Future (List ℕ)) (core_is : core ≡ opened_with (is_filter kind) cancel_after suspend_after) (future : FutureId) (all : List (PassState (List ℕ))) (shared : IsShared core (workers + 1) (workers + 2) future all)
-    (first : List (PassState (List ℕ))) (taken : Option (PassState (List ℕ))) (caller : PassState (List ℕ)) (all_are : all ≡ first ++ option_to_list taken) (taken_is : taken ≡ Some caller)
-    (left : List (PassState (List ℕ))) (taken' : Option (PassState (List ℕ))) (pass : PassState (List ℕ)) (first_are : first ≡ left ++ option_to_list taken') (taken'_is : taken' ≡ Some pass)
+    (future : FutureId) (passes : List (PassState (List ℕ))) (reporting caller : PassState (List ℕ)) (opened : IsOpened (plan_terms kind cancel_after suspend_after workers) workers future passes reporting caller)
     (counter : CounterId) (seats : List SeatState) (tally : TallyState) (new : IsNew (length items) workers counter seats tally) where
   abbrev made : Crew F
   made = crew_with counter future items functions sizes
-
-  abbrev numbered : ℕ → PassState (List ℕ)
-  numbered number = pass_at future number opening
-
-  pub terms_are : future.terms ≡ plan_terms kind cancel_after suspend_after workers
-  terms_are = shared.terms ∙ ap (λ (f : Future (List ℕ)). record { filter = f.filter; thresholds = f.thresholds; makers = workers + 1 }) core_is
-
-  all_numbered : (number : ℕ) → number < length all → slice_get all number ≡ Some (numbered number)
-  all_numbered number within = let count = shared.count_is in shared.each number (omega arith) ∙ ap (λ (f : Future (List ℕ)). Some (pass_at future number f.calls)) core_is
-
-  first_long : length first ≡ workers + 1
-  first_long = let long = popped_length all first taken caller all_are taken_is in let count = shared.count_is in omega arith
-
-  left_long : length left ≡ workers
-  left_long = let long = popped_length first left taken' pass first_are taken'_is in let count = first_long in omega arith
-
-  caller_is : caller ≡ numbered (workers + 1)
-  caller_is = popped_last numbered all first taken caller all_are taken_is all_numbered ∙ ap numbered first_long
-
-  first_numbered : (number : ℕ) → number < length first → slice_get first number ≡ Some (numbered number)
-  first_numbered = popped_others numbered all first taken caller all_are taken_is all_numbered
-
-  pass_is : pass ≡ numbered workers
-  pass_is = popped_last numbered first left taken' pass first_are taken'_is first_numbered ∙ ap numbered left_long
-
-  left_numbered : (number : ℕ) → number < length left → slice_get left number ≡ Some (numbered number)
-  left_numbered = popped_others numbered first left taken' pass first_are taken'_is first_numbered
 
   pub made_fits : IsCrew value made
   made_fits = record {
     indexes = new.indexes;
     limits = subst (λ n. IsWithinLimits n counter.workers) (sym new.indexes) (subst (IsWithinLimits (length items)) (sym new.for_workers) planned.limits);
-    makers = ap (λ (terms : Terms). terms.makers) terms_are ∙ ap (λ k. k + 1) (sym new.for_workers);
+    makers = ap (λ (terms : Terms). terms.makers) opened.terms_are ∙ ap (λ k. k + 1) (sym new.for_workers);
     sizes = planned.sizes_are;
-    suits = subst (λ filter. Suits filter (work_of value made)) (sym (ap (λ (terms : Terms). terms.filter) terms_are)) planned.suits;
+    suits = subst (λ filter. Suits filter (work_of value made)) (sym (ap (λ (terms : Terms). terms.filter) opened.terms_are)) planned.suits;
   }
 
-  pub made_board : IsBoard value made tally pass
-  made_board = board_opens value called made tally pass (let one = planned.limits.one in let is = new.for_workers in omega arith) new.nothing (pass_is ∙ ap numbered (sym new.for_workers))
+  pub made_board : IsBoard value made tally reporting
+  made_board = board_opens value called made tally reporting (let one = planned.limits.one in let is = new.for_workers in omega arith) new.nothing (opened.reporting_is ∙ ap (λ k. pass_at future k opening) (sym new.for_workers))
 
-  fresh : AreFresh value called made 0 (desks_with seats left functions) (length functions)
+  fresh : AreFresh value called made 0 (desks_with seats passes functions) (length functions)
   fresh =
       let count = planned.count in
       let seats_count = new.count in
-      let left_count = left_long in
+      let passes_count = opened.count in
       let are = new.for_workers in
-      desks_fresh value called made 0 seats left functions planned.sizes_are.some (omega arith) (omega arith) (omega arith)
+      desks_fresh value called made 0 seats passes functions planned.sizes_are.some (omega arith) (omega arith) (omega arith)
       (λ i within. new.each i (omega arith) ∙ ap (λ j. Some (seat_at value called made j)) (omega arith))
-      (λ i within. left_numbered i (omega arith) ∙ ap (λ j. Some (numbered j)) (omega arith))
+      (λ i within. opened.each i (omega arith) ∙ ap (λ j. Some (pass_at future j opening)) (omega arith))
       planned.alike planned.fresh
 
-  pub made_engine : (crew : Crew F) (desks : List (DeskState F)) → crew ≡ made → desks ≡ desks_with seats left functions → IsEngineOf value called items (plan_terms kind cancel_after suspend_after workers) sizes functions crew desks caller
+  pub made_engine : (crew : Crew F) (desks : List (DeskState F)) → crew ≡ made → desks ≡ desks_with seats passes functions → IsEngineOf value called items (plan_terms kind cancel_after suspend_after workers) sizes functions crew desks caller
   made_engine crew desks crew_is desks_are =
-      let is : IsEngineOf value called items (plan_terms kind cancel_after suspend_after workers) sizes functions made (desks_with seats left functions) caller = record {
+      let is : IsEngineOf value called items (plan_terms kind cancel_after suspend_after workers) sizes functions made (desks_with seats passes functions) caller = record {
         items_are = refl;
         functions_are = refl;
         sizes_are = refl;
-        terms_are = terms_are;
+        terms_are = opened.terms_are;
         fits = made_fits;
         desks_are = record { count = fresh.count_is ∙ planned.count ∙ sym new.for_workers; each = fresh.each };
-        fresh = λ number within. let count = fresh.count_is in subst (λ j. IfSome (slice_get (desks_with seats left functions) number) (IsNewDesk made j)) (omega arith) (fresh.fresh number (omega arith));
-        pass_is = caller_is ∙ ap (λ k. numbered (k + 1)) (sym new.for_workers);
+        fresh = λ number within. let count = fresh.count_is in subst (λ j. IfSome (slice_get (desks_with seats passes functions) number) (IsNewDesk made j)) (omega arith) (fresh.fresh number (omega arith));
+        pass_is = opened.caller_is ∙ ap (λ k. pass_at future (k + 1) opening) (sym new.for_workers);
       } in
       subst (λ (c : Crew F). IsEngineOf value called items (plan_terms kind cancel_after suspend_after workers) sizes functions c desks caller) (sym crew_is)
       (subst (λ (ds : List (DeskState F)). IsEngineOf value called items (plan_terms kind cancel_after suspend_after workers) sizes functions made ds caller) (sym desks_are) is)

@@ -245,6 +245,16 @@ plan_terms kind cancel_after suspend_after workers = record {
   makers = workers + 1;
 }
 
+-- a future as an engine begins with it, on these terms, and its passes: one for each worker, the one that reports for
+-- all of them, and the caller's
+pub record IsOpened (terms : Terms) (workers : ℕ) (future : FutureId) (passes : List (PassState (List ℕ)))
+    (reporting caller : PassState (List ℕ)) : Type 0 where
+  pub terms_are : future.terms ≡ terms
+  pub count : length passes ≡ workers
+  pub each : (number : ℕ) → number < workers → slice_get passes number ≡ Some (pass_at future number opening)
+  pub reporting_is : reporting ≡ pass_at future workers opening
+  pub caller_is : caller ≡ pass_at future (workers + 1) opening
+
 -- the desks are all those of the engine
 pub record AreDesks {F : Type 0} (value : F → List ℕ → ItemValue) (called : F → List ℕ) (crew : Crew F)
     (desks : List (DeskState F)) : Type 0 where

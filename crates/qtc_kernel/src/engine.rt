@@ -3,12 +3,12 @@ ghost use Rattle.std.specs.Prelude.{◌≡◌, ◌<◌, true, false, IfOk, IsTru
 ghost use Rattle.qtc_shared.specs.Passes.{Sees};
 ghost use Rattle.qtc_kernel.specs.Crews.{IsDesk, IsEngineOf, IsPlanned, IsSameButLooks, plan_terms};
 
+use crate::beginning::{Opened, open_future};
 use crate::board::{Board, placed};
 use crate::desk::desks_of;
 use crate::{Desk, Kind, Plan};
 use qtc_base::{Bytes, Items, List, NoMemory};
 use qtc_claim::Counter;
-use qtc_future::FutureCore;
 use qtc_lock::KeyLock;
 use qtc_ops::ItemFn;
 use qtc_outside::Gate;
@@ -77,15 +77,16 @@ impl<'a, F: ItemFn + Drop, G: Gate> Engine<'a, F, G> {
             cancel_after,
             suspend_after,
         } = plan;
-        let mut core = FutureCore::new(alloc, kind.is_filter(), cancel_after, suspend_after)?;
-        core.start(0);
-        let (future, mut passes) = SharedFuture::from_core(alloc, core, workers + 1, workers + 2)?;
-        let caller = passes.pop().unwrap();
-        let pass = passes.pop().unwrap();
+        let Opened {
+            future,
+            passes,
+            reporter,
+            caller,
+        } = open_future(alloc, kind, cancel_after, suspend_after, workers)?;
         let (counter, seats, tally) = Counter::new(alloc, items.len(), workers)?;
         let board = Board {
             tally,
-            pass,
+            pass: reporter,
             marker: PhantomData,
         };
         let board = placed::<F, Brand>(

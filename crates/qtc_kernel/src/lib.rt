@@ -8,6 +8,7 @@
 //! `IsDesk`.
 #![tactic(auto)]
 
+mod beginning;
 mod blocks;
 mod board;
 mod claim_laws;

@@ -1,6 +1,7 @@
 ghost use Rattle.std.specs.Prelude.{◌≡◌, [], IfOk, if◌then◌else◌};
 ghost use Rattle.qtc_kernel.specs.Driving.{is_filter};
 ghost use Rattle.qtc_future.specs.Future.{events_of, journal_of};
+ghost use Rattle.qtc_run.specs.Laws.{IsMadeOf};
 ghost use Rattle.qtc_run.specs.Reports.{is_keep, is_canceled_end};
 ghost use Rattle.qtc_run.specs.Rounds.{HasDone, IsEngineFor, IsReady, IsReportFor};
 
@@ -10,6 +11,7 @@ use crate::rounds::Source;
 use qtc_base::{Bytes, List, NoMemory};
 use qtc_events::{Entry, Event};
 use qtc_future::{FutureCore, Outcome};
+use qtc_job::Job;
 use qtc_kernel::{Engine, Finished, Kind};
 use qtc_ops::{ItemFn, ItemOp};
 use qtc_outside::Gate;
@@ -59,6 +61,30 @@ fn is_canceled(ended: &Outcome<Bytes>) -> bool
     }
 }
 
+/// What is reported of a job with this future, whose functions were called on these indexes.
+fn report_from(
+    alloc: Global,
+    job: &Job,
+    future: FutureCore<Bytes>,
+    calls: List<u32>,
+) -> Result<JobReport, NoMemory>
+    ensures made { IfOk result (λ report. IsMadeOf job.now report future) }
+    ensures calls { IfOk result (λ report. report.calls ≡ calls) }
+{
+    let journal = journal_of(alloc, &future)?;
+    let events = events_of(alloc, &future, job.watch)?;
+    let ended = future.into_outcome()?;
+    Ok(JobReport {
+        ended,
+        partial: List::new(alloc),
+        order: None,
+        any: None,
+        calls,
+        journal,
+        events,
+    })
+}
+
 /// Closes the engine of a job, and says what became of it.
 ///
 /// No caller cancels a job that is run so far. So one that was canceled wanted memory, and so does this call.
@@ -77,21 +103,11 @@ pub fn report_of<F: ItemFn + Drop, G: Gate, R: Wait>(
 {
     let Finished { pass, calls } = done;
     let future = engine.close(rt, pass);
-    let journal = journal_of(alloc, &future)?;
-    let events = events_of(alloc, &future, source.job.watch)?;
-    let ended = future.into_outcome()?;
-    if is_canceled(&ended) {
+    let report = report_from(alloc, source.job, future, calls)?;
+    if is_canceled(&report.ended) {
         return Err(NoMemory);
     }
     // The proof has from this law that what follows is a report.
     worked_jobs_are_reported();
-    Ok(JobReport {
-        ended,
-        partial: List::new(alloc),
-        order: None,
-        any: None,
-        calls,
-        journal,
-        events,
-    })
+    Ok(report)
 }

@@ -18,6 +18,7 @@ use qtc_kernel::{Desk, Engine, Finished, Plan};
 use qtc_ops::{ItemFn, ItemOp, OpFn};
 use qtc_outside::Gate;
 use qtc_pool::Pool;
+use qtc_pool_core::PoolEntry;
 use std::alloc::Global;
 use std::sync::Wait;
 use std::thread::Threads;
@@ -192,6 +193,30 @@ fn work_on<'e, 'a, F: ItemFn + Drop, G: Gate, R: Threads + Wait + Sync>(
     Ok(left)
 }
 
+/// Lets a pool of so many workers do the jobs of the round at the desks, and gives back a place for each desk, and what
+/// the pool did.
+fn work_round<'e, 'a, G: Gate, R: Threads + Wait + Sync>(
+    alloc: Global,
+    rt: &R,
+    sources: &[Source<'_>],
+    engines: &'e [Engine<'a, OpFn, G>],
+    desks: Vec<Desk<OpFn>>,
+    workers: u32,
+) -> Result<(Vec<Place<'e, 'a, OpFn, G>>, List<PoolEntry>), NoMemory>
+    requires ready { All IsReady sources.now }
+    requires desks { EachPair (IsFree ⟦<OpFn as ItemFn>⟧.value ⟦<OpFn as ItemFn>⟧.called)
+        (each_times workers engines.now) desks.items }
+    requires workers { (1 ≤ workers) × (workers ≤ 32) }
+    ensures places { IfOk result (λ worked. worked.0.items ≡ each_times workers engines.now) }
+    ensures pool { IfOk result (λ worked. IsPoolRun workers worked.1) }
+{
+    let pool = queue_all(alloc, rt, sources, workers)?;
+    let places = work_on(alloc, rt, &pool, engines, desks, workers)?;
+    let core = pool.close(rt);
+    let journal = Vec::from_slice(alloc, core.journal())?;
+    Ok((places, List::from_vec(journal)))
+}
+
 /// The desks of the next so many places.
 fn desks_at<'e, 'a, F: ItemFn + Drop, G: Gate>(
     alloc: Global,
@@ -281,14 +306,8 @@ pub fn run_round<G: Gate, R: Threads + Wait + Sync>(
     ensures pool { IfOk result (λ report. IsPoolRun workers report.pool) }
 {
     let Opened { engines, desks } = open_all(alloc, sources, workers, gate)?;
-    let pool = queue_all(alloc, rt, sources, workers)?;
-    let places = work_on(alloc, rt, &pool, &engines, desks, workers)?;
-    let core = pool.close(rt);
-    let journal = Vec::from_slice(alloc, core.journal())?;
+    let (places, pool) = work_round(alloc, rt, sources, &engines, desks, workers)?;
     let finished = finish_all(alloc, rt, &engines, places, workers)?;
     let jobs = report_all(alloc, rt, sources, engines, finished, workers)?;
-    Ok(Report {
-        jobs,
-        pool: List::from_vec(journal),
-    })
+    Ok(Report { jobs, pool })
 }

@@ -9,8 +9,9 @@ ghost use Rattle.qtc_run.specs.Sources.{items_of_all, names_of_all};
 ghost use Rattle.qtc_run.specs.Sums.{IsCountable, RefusesRun};
 
 use crate::rounds::{Source, run_round};
+use crate::sizes::Size;
 use crate::sources::items_from;
-use crate::sums::check_sums;
+use crate::sums::sizes_of;
 use crate::{Loaded, Report, RunFault};
 use qtc_base::NoMemory;
 use qtc_job::JobFile;
@@ -19,15 +20,17 @@ use std::alloc::Global;
 use std::sync::Wait;
 use std::thread::Threads;
 
-/// The jobs of a file, each with its items.
+/// The jobs of a file, each with its items, whose sizes were counted.
 fn sources_of<'j>(
     alloc: Global,
     file: &'j JobFile,
     loaded: &Loaded,
+    sizes: &[Size],
 ) -> Result<Vec<Source<'j>>, NoMemory>
     requires countable { IsCountable file.now }
     requires runnable { IsTrue (are_runnable file.now.jobs) }
     requires loaded { HasAll loaded.now (names_of_all file.now.jobs) }
+    requires sizes { length sizes.now ≡ length file.now.jobs }
     requires fits { ¬ PassesLimit (items_of_all loaded.now file.now.jobs) }
     ensures sources { IfOk result (λ sources. EachPair (IsSourceOf loaded.now) file.now.jobs sources.items) }
     ensures ready { IfOk result (λ sources. All IsReady sources.items) }
@@ -38,7 +41,7 @@ fn sources_of<'j>(
         sources.push(Source {
             place: place as u32,
             job,
-            items: items_from(alloc, &job.input, loaded)?,
+            items: items_from(alloc, &job.input, loaded, sizes[place])?,
         })?;
     }
     Ok(sources)
@@ -69,8 +72,8 @@ pub fn run_file<G: Gate, R: Threads + Wait + Sync>(
     ensures fits { OnOk result (¬ PassesLimit (items_of_all loaded.now file.now.jobs)) }
     ensures too_large { IfErr result (RefusesRun loaded.now file.now.jobs) }
 {
-    check_sums(file.jobs.as_slice(), loaded)?;
-    let sources = sources_of(alloc, file, loaded)?;
+    let sizes = sizes_of(alloc, file.jobs.as_slice(), loaded)?;
+    let sources = sources_of(alloc, file, loaded, &sizes)?;
     let report = run_round(alloc, rt, &sources, workers, gate)?;
     Ok(report)
 }

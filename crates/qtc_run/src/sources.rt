@@ -6,7 +6,7 @@ ghost use Rattle.qtc_run.specs.Sources.{items_of, names_of, pieces_of, text_of};
 ghost use Rattle.qtc_run.specs.Sums.{IsSized};
 
 use crate::Loaded;
-use crate::sizes::size_of;
+use crate::sizes::Size;
 use qtc_base::{Bytes, Items, Lines, NoMemory, PushFault};
 use qtc_job::Input;
 use std::alloc::Global;
@@ -71,16 +71,20 @@ fn append_pieces(text: &[u8], size: u32, items: &mut Items) -> Result<(), NoMemo
     Ok(())
 }
 
-/// The items of an input, in a list that is made with just their room; each byte is copied once. Err is want of
-/// memory.
-pub fn items_from(alloc: Global, input: &Input, loaded: &Loaded) -> Result<Items, NoMemory>
+/// The items of an input, in a list that is made with room for so many and so much; each byte is copied once. Err is
+/// want of memory.
+pub fn items_from(
+    alloc: Global,
+    input: &Input,
+    loaded: &Loaded,
+    room: Size,
+) -> Result<Items, NoMemory>
     requires named { HasAll loaded.now (names_of input.now) }
     requires sized { IsSized input.now }
     requires fits { ¬ PassesLimit (items_of loaded.now input.now) }
     ensures { IfOk result (λ items. items ≡ items_of loaded.now input.now) }
 {
-    let size = size_of(input, loaded);
-    let mut items = Items::with_capacity(alloc, size.items as usize, size.bytes as usize)?;
+    let mut items = Items::with_capacity(alloc, room.items as usize, room.bytes as usize)?;
     match input {
         Input::Lines(name) => append_lines(loaded.text(name.as_slice()), &mut items)?,
         Input::Files(names) => append_files(names.as_slice(), loaded, &mut items)?,

@@ -56,21 +56,22 @@ def make_text(path, count):
             text.write(f"{x}\n")
 
 
+def timed(words, folder, status=0):
+    """Seconds and peak kilobytes of one run, which ends with this status."""
+    with open(os.devnull, "wb") as out:
+        begin = time.perf_counter()
+        child = subprocess.Popen(words, stdout=out, cwd=folder)
+        _, ended, usage = os.wait4(child.pid, 0)
+        seconds = time.perf_counter() - begin
+    child.returncode = os.waitstatus_to_exitcode(ended)
+    if child.returncode != status:
+        sys.exit(f"bench: {words} ended with {child.returncode}")
+    return seconds, usage.ru_maxrss
+
+
 def measure(words, folder, status=0):
-    """Seconds and peak kilobytes of the best of some runs that end with this status."""
-    best = None
-    for _ in range(RUNS):
-        with open(os.devnull, "wb") as out:
-            begin = time.perf_counter()
-            child = subprocess.Popen(words, stdout=out, cwd=folder)
-            _, ended, usage = os.wait4(child.pid, 0)
-            seconds = time.perf_counter() - begin
-        child.returncode = os.waitstatus_to_exitcode(ended)
-        if child.returncode != status:
-            sys.exit(f"bench: {words} ended with {child.returncode}")
-        if best is None or seconds < best[0]:
-            best = (seconds, usage.ru_maxrss)
-    return best
+    """The fastest of some runs."""
+    return min(timed(words, folder, status) for _ in range(RUNS))
 
 
 def built_c_loop(folder):

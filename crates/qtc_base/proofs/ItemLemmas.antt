@@ -1,77 +1,67 @@
--- What a push and a look-up do to the pieces of a buffer.
-use Rattle.std.proofs.Common.{◌≡◌, ℕ, zero, suc, ◌-◌, ◌<◌, ◌≤◌, List, [], ◌∷◌, ◌++◌, length, get_or, refl, ap, sym, ◌∙◌, arith}
-use Rattle.std.specs.Prelude.{slice_range, slice_get, Some}
+-- What a push does to the parts of a text, and how many bytes they have.
+use Rattle.std.proofs.Common.{◌≡◌, ℕ, ◌+◌, ◌-◌, ◌<◌, ◌≤◌, List, [], ◌∷◌, ◌++◌, length, inl, inr, refl, ap, ◌∙◌, subst, sym, arith}
+use Rattle.std.specs.Prelude.{All, slice_range, sum_by}
 use Rattle.std.proofs.lemmas.Grind.{common_steps}
-use Rattle.qtc_base.specs.Pieces.{pieces, AreEnds, begin_of}
-use Rattle.qtc_base.specs.Items.{total_bytes}
+use Rattle.std.proofs.lemmas.List.{map-append}
+use Rattle.std.proofs.lemmas.List.Elements.{All-append, All-cons, All-head, All-nil, All-tail}
+use Rattle.std.proofs.lemmas.List.Sums.{sum_by-append, sum_by-cons}
+use Rattle.qtc_base.specs.Items.{most_bytes, most_items, total_bytes, PassesLimit}
+use Rattle.qtc_base.specs.ItemsInside.{IsOneMore}
+use Rattle.qtc_base.specs.Parts.{AreWithin, part_len, part_of, parts_of}
+use Rattle.qtc_base.specs.declared.ranges.Range.{Range}
 
-pub length-pieces : (bytes : List ℕ) (start : ℕ) (ends : List ℕ) → length (pieces bytes start ends) ≡ length ends
-length-pieces bytes start [] = refl
-length-pieces bytes start (end ∷ ends) = ap suc (length-pieces bytes end ends)
+pub one_more : (text item : List ℕ) (old new : List Range) (part : Range) → new ≡ old ++ part ∷ [] → part.begin ≡ length text → part.end ≡ length text + length item → IsOneMore text item old new
+one_more text item old new part parts begin end = record { part = part; begin = begin; end = end; parts = parts }
 
-pub start-le : (start whole : ℕ) (ends : List ℕ) → AreEnds start whole ends → start ≤ whole
-start-le start whole [] h = omega arith
-start-le start whole (end ∷ ends) h = let there = start-le end whole ends h.1 in let here = h.0 in omega arith
-
-pub total_bytes-pieces : (bytes : List ℕ) (start : ℕ) (ends : List ℕ) → AreEnds start (length bytes) ends → total_bytes (pieces bytes start ends) ≡ length bytes - start
-total_bytes-pieces bytes start [] h = omega arith
-total_bytes-pieces bytes start (end ∷ ends) h =
-    let there = total_bytes-pieces bytes end ends h.1 in
-    let within = start-le end (length bytes) ends h.1 in
-    let here = h.0 in
-    grind (arith, common_steps)
-
--- the pieces stay where bytes come after them
-pub pieces-append : (bytes more : List ℕ) (start : ℕ) (ends : List ℕ) → AreEnds start (length bytes) ends → pieces (bytes ++ more) start ends ≡ pieces bytes start ends
-pieces-append bytes more start [] h = refl
-pieces-append bytes more start (end ∷ ends) h =
-    let there = pieces-append bytes more end ends h.1 in
-    let within = start-le end (length bytes) ends h.1 in
-    let here : slice_range (bytes ++ more) start end ≡ slice_range bytes start end = grind (arith, common_steps) in
+-- the parts stay where bytes come after them
+parts-append : (text more : List ℕ) (parts : List Range) → AreWithin text parts → parts_of (text ++ more) parts ≡ parts_of text parts
+parts-append text more [] within = refl
+parts-append text more (part ∷ parts) within =
+    let P : Range → Type 0 = λ part. part.end ≤ length text in
+    let there = parts-append text more parts (All-tail P part parts within) in
+    let inside = All-head P part parts within in
+    let here : slice_range (text ++ more) part.begin part.end ≡ slice_range text part.begin part.end = grind (arith, common_steps) in
     cc
 
-pub pieces-push : (bytes item : List ℕ) (start : ℕ) (ends : List ℕ) (whole : ℕ) → AreEnds start (length bytes) ends → whole ≡ length (bytes ++ item) → pieces (bytes ++ item) start (ends ++ whole ∷ []) ≡ pieces bytes start ends ++ item ∷ []
-pieces-push bytes item start [] whole h e =
-    let here : slice_range (bytes ++ item) start whole ≡ item = grind (arith, common_steps) in
-    cc
-pieces-push bytes item start (end ∷ ends) whole h e =
-    let there = pieces-push bytes item end ends whole h.1 e in
-    let within = start-le end (length bytes) ends h.1 in
-    let start_in = h.0 in
-    let here : slice_range (bytes ++ item) start end ≡ slice_range bytes start end = grind (arith, common_steps) in
-    cc
+within-append : (text more : List ℕ) (parts : List Range) → AreWithin text parts → AreWithin (text ++ more) parts
+within-append text more [] within = All-nil (λ part. part.end ≤ length (text ++ more))
+within-append text more (part ∷ parts) within =
+    let P : Range → Type 0 = λ part. part.end ≤ length text in
+    let inside = All-head P part parts within in
+    All-cons (λ part. part.end ≤ length (text ++ more)) part parts (grind (arith, common_steps)) (within-append text more parts (All-tail P part parts within))
 
-pub AreEnds-push : (start whole more : ℕ) (ends : List ℕ) → AreEnds start whole ends → whole ≤ more → AreEnds start more (ends ++ more ∷ [])
-AreEnds-push start whole more [] h le = (omega arith, refl)
-AreEnds-push start whole more (end ∷ ends) h le = (h.0, AreEnds-push end whole more ends h.1 le)
+pub parts-push : (text item : List ℕ) (old new : List Range) → AreWithin text old → IsOneMore text item old new → parts_of (text ++ item) new ≡ parts_of text old ++ item ∷ []
+parts-push text item old new within more =
+    let begin = more.begin in
+    let end = more.end in
+    let here : slice_range (text ++ item) more.part.begin more.part.end ≡ item = grind (arith, common_steps) in
+    ap (parts_of (text ++ item)) more.parts ∙ map-append (part_of (text ++ item)) old (more.part ∷ [])
+    ∙ ap (λ front. front ++ part_of (text ++ item) more.part ∷ []) (parts-append text item old within)
+    ∙ ap (λ last. parts_of text old ++ last ∷ []) here
 
-pub end-le : (start whole : ℕ) (ends : List ℕ) (place : ℕ) → AreEnds start whole ends → place < length ends → get_or ends place 0 ≤ whole
-end-le start whole [] place h lt = absurd (omega arith)
-end-le start whole (end ∷ ends) zero h lt = start-le end whole ends h.1
-end-le start whole (end ∷ ends) (suc place) h lt = end-le end whole ends place h.1 (omega arith)
+pub within-push : (text item : List ℕ) (old new : List Range) → AreWithin text old → IsOneMore text item old new → AreWithin (text ++ item) new
+within-push text item old new within more =
+    let P : Range → Type 0 = λ part. part.end ≤ length (text ++ item) in
+    let end = more.end in
+    subst (All P) (sym more.parts) (All-append P old (more.part ∷ []) (within-append text item old within) (All-cons P more.part [] (grind (arith, common_steps)) (All-nil P)))
 
-pub begin-le : (start whole : ℕ) (ends : List ℕ) (place : ℕ) → AreEnds start whole ends → place < length ends → begin_of start ends place ≤ get_or ends place 0
-begin-le start whole [] place h lt = absurd (omega arith)
-begin-le start whole (end ∷ ends) zero h lt = h.0
-begin-le start whole (end ∷ ends) (suc zero) h lt = begin-le end whole ends zero h.1 (omega arith)
-begin-le start whole (end ∷ ends) (suc (suc place)) h lt = begin-le end whole ends (suc place) h.1 (omega arith)
+pub total_bytes-push : (items : List (List ℕ)) (item : List ℕ) → total_bytes (items ++ item ∷ []) ≡ total_bytes items + length item
+total_bytes-push items item = sum_by-append length items (item ∷ []) ∙ ap (λ k. total_bytes items + k) (let one = sum_by-cons length item [] in omega arith)
 
-pub get-pieces : (bytes : List ℕ) (start : ℕ) (ends : List ℕ) (place : ℕ) → place < length ends → slice_get (pieces bytes start ends) place ≡ Some (slice_range bytes (begin_of start ends place) (get_or ends place 0))
-get-pieces bytes start [] place lt = absurd (omega arith)
-get-pieces bytes start (end ∷ ends) zero lt = refl
-get-pieces bytes start (end ∷ ends) (suc zero) lt = get-pieces bytes end ends zero (omega arith)
-get-pieces bytes start (end ∷ ends) (suc (suc place)) lt = get-pieces bytes end ends (suc place) (omega arith)
+-- a part has as many bytes as lie between its ends
+pub total_bytes-parts : (text : List ℕ) (parts : List Range) → AreWithin text parts → total_bytes (parts_of text parts) ≡ sum_by part_len parts
+total_bytes-parts text [] within = refl
+total_bytes-parts text (part ∷ parts) within =
+    let P : Range → Type 0 = λ part. part.end ≤ length text in
+    let there = total_bytes-parts text parts (All-tail P part parts within) in
+    let inside = All-head P part parts within in
+    let here : length (slice_range text part.begin part.end) ≡ part.end - part.begin = grind (arith, common_steps) in
+    let first = sum_by-cons length (part_of text part) (parts_of text parts) in
+    let second = sum_by-cons part_len part parts in
+    omega arith
 
--- the numbers that the buffer knows are those of the items
-pub length-items : (bytes : List ℕ) (ends : List ℕ) (items : List (List ℕ)) → pieces bytes 0 ends ≡ items → length items ≡ length ends
-length-items bytes ends items e = ap length (sym e) ∙ length-pieces bytes 0 ends
-
-pub total_bytes-items : (bytes : List ℕ) (ends : List ℕ) (items : List (List ℕ)) → AreEnds 0 (length bytes) ends → pieces bytes 0 ends ≡ items → total_bytes items ≡ length bytes
-total_bytes-items bytes ends items h e = let all = total_bytes-pieces bytes 0 ends h in let same = ap total_bytes (sym e) in omega arith
-
--- a push on the buffer and on the list
-pub push-items : (bytes item : List ℕ) (ends : List ℕ) (whole : ℕ) (items : List (List ℕ)) → AreEnds 0 (length bytes) ends → whole ≡ length (bytes ++ item) → pieces bytes 0 ends ≡ items → pieces (bytes ++ item) 0 (ends ++ whole ∷ []) ≡ items ++ item ∷ []
-push-items bytes item ends whole items h e is = pieces-push bytes item 0 ends whole h e ∙ ap (λ s. s ++ item ∷ []) is
-
-pub get-items : (bytes : List ℕ) (ends : List ℕ) (items : List (List ℕ)) (place : ℕ) → place < length ends → pieces bytes 0 ends ≡ items → slice_get items place ≡ Some (slice_range bytes (begin_of 0 ends place) (get_or ends place 0))
-get-items bytes ends items place lt is = ap (λ s. slice_get s place) (sym is) ∙ get-pieces bytes 0 ends place lt
+pub keeps_limits : (items : List (List ℕ)) → ¬ PassesLimit items → (length items ≤ most_items) × (total_bytes items ≤ most_bytes)
+keeps_limits items none =
+    let few : most_items < length items → ⊥ = λ more. none (inl more) in
+    let short : most_bytes < total_bytes items → ⊥ = λ more. none (inr more) in
+    (omega arith, omega arith)

@@ -1,9 +1,17 @@
 -- Where the first line of a text ends.
-use Rattle.std.proofs.Common.{◌≡◌, ℕ, zero, suc, ◌+◌, ◌-◌, ◌<◌, ◌≤◌, List, [], ◌∷◌, length, take, drop, get_or, eqb, true, refl, ap, arith}
+use Rattle.std.proofs.Common.{◌≡◌, ℕ, zero, suc, ◌+◌, ◌-◌, ◌<◌, ◌≤◌, List, [], ◌∷◌, ◌++◌, length, take, drop, get_or, eqb, true, refl, ap, subst, sym, ◌∙◌, ⊎_elim, arith}
 use Rattle.std.specs.List.{onto_first}
 use Rattle.std.proofs.lemmas.Bool.{false_from_ne_true}
 use Rattle.std.proofs.lemmas.Grind.{common_steps}
+use Rattle.std.specs.Prelude.{All, slice_range}
+use Rattle.std.proofs.lemmas.Bool.{cases_Bool}
+use Rattle.std.proofs.lemmas.List.Sums.{sum_by-cons}
+use Rattle.qtc_base.specs.Items.{total_bytes}
+use Rattle.std.proofs.lemmas.List.{append_assoc, map-append}
+use Rattle.std.proofs.lemmas.List.Elements.{All-append, All-cons, All-nil}
 use Rattle.qtc_base.specs.Lines.{lines}
+use Rattle.qtc_base.specs.Parts.{AreWithin, part_of, parts_of}
+use Rattle.qtc_base.specs.declared.ranges.Range.{Range}
 
 -- no byte of the text is LF
 one_line_after : (byte : ℕ) (text : List ℕ) → ((k : ℕ) → k < suc (length text) → eqb (get_or (byte ∷ text) k 0) 10 ≡ true → ⊥) → lines (byte ∷ text) ≡ (byte ∷ text) ∷ []
@@ -33,3 +41,45 @@ pub first_line : (text : List ℕ) (end : ℕ) → end < length text → ((k : �
 first_line text end within none here =
     let rest : take (length text - (end + 1)) (drop (end + 1) text) ≡ drop (suc end) text = grind (arith, common_steps) in
     rw rest (first_line_at text end within (λ k h. none k (omega arith) h) here)
+
+-- one line more was found
+pub found_more : (text : List ℕ) (old new : List Range) (part : Range) (begin end : ℕ) → new ≡ old ++ part ∷ [] → part.begin ≡ begin → part.end ≡ end → end ≤ length text → lines (drop begin text) ≡ slice_range text begin end ∷ lines (drop (end + 1) text) → AreWithin text old → parts_of text old ++ lines (drop begin text) ≡ lines text
+    → AreWithin text new × (parts_of text new ++ lines (drop (end + 1) text) ≡ lines text)
+found_more text old new part begin end new_is begin_is end_is below line within front =
+    let P : Range → Type 0 = λ part. part.end ≤ length text in
+    let last : part_of text part ≡ slice_range text begin end = ap (λ b. slice_range text b part.end) begin_is ∙ ap (slice_range text begin) end_is in
+    let parts : parts_of text new ≡ parts_of text old ++ slice_range text begin end ∷ [] = ap (parts_of text) new_is ∙ map-append (part_of text) old (part ∷ []) ∙ ap (λ x. parts_of text old ++ x ∷ []) last in
+    let joined : (parts_of text old ++ slice_range text begin end ∷ []) ++ lines (drop (end + 1) text) ≡ parts_of text old ++ (slice_range text begin end ∷ lines (drop (end + 1) text)) = append_assoc (parts_of text old) (slice_range text begin end ∷ []) (lines (drop (end + 1) text)) in (
+      subst (All P) (sym new_is) (All-append P old (part ∷ []) within (All-cons P part [] (omega arith) (All-nil P))),
+      ap (λ xs. xs ++ lines (drop (end + 1) text)) parts ∙ joined ∙ ap (λ xs. parts_of text old ++ xs) (sym line) ∙ front,
+    )
+
+-- ---- no text has more lines than bytes
+
+onto_number : (byte : ℕ) (ls : List (List ℕ)) → length (onto_first byte ls) ≤ length ls + 1
+onto_number byte [] = omega arith
+onto_number byte (l ∷ ls) = omega arith
+
+onto_bytes : (byte : ℕ) (ls : List (List ℕ)) → total_bytes (onto_first byte ls) ≡ 1 + total_bytes ls
+onto_bytes byte [] = refl
+onto_bytes byte (l ∷ ls) = let more = sum_by-cons length (byte ∷ l) ls in let less = sum_by-cons length l ls in omega arith
+
+pub lines_short : (text : List ℕ) → (length (lines text) ≤ length text) × (total_bytes (lines text) ≤ length text)
+lines_short [] = (omega arith, omega arith)
+lines_short (byte ∷ text) =
+    let there = lines_short text in
+    let number = there.0 in
+    let bytes = there.1 in
+    ⊎_elim
+    (λ feed.
+    let cut : lines (byte ∷ text) ≡ [] ∷ lines text = rw feed refl in
+    let count = ap length cut in
+    let size : total_bytes (lines (byte ∷ text)) ≡ 0 + total_bytes (lines text) = ap total_bytes cut ∙ sum_by-cons length [] (lines text) in
+    (omega arith, omega arith))
+    (λ other.
+    let cut : lines (byte ∷ text) ≡ onto_first byte (lines text) = rw other refl in
+    let count = ap length cut in
+    let more = onto_number byte (lines text) in
+    let size : total_bytes (lines (byte ∷ text)) ≡ 1 + total_bytes (lines text) = ap total_bytes cut ∙ onto_bytes byte (lines text) in
+    (omega arith, omega arith))
+    (cases_Bool (eqb byte 10))

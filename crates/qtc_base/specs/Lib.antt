@@ -5,6 +5,6 @@ pub mod Items
 pub mod ItemsInside
 pub mod Laws
 pub mod Lines
-pub mod Pieces
+pub mod Parts
 pub mod Ranges
 pub mod Words

@@ -1,10 +1,13 @@
-ghost use Rattle.std.specs.Prelude.{◌≡◌, ◌≤◌, ◌↔◌, [], ◌∷◌, ◌++◌, IfOk, OnOk, OnErr, IsErrOf, IsTrue, length, slice_get, option_copied};
+ghost use Rattle.std.specs.Arc.{arc_value};
+ghost use Rattle.std.specs.Prelude.{◌≡◌, ◌≤◌, ◌↔◌, ◌+◌, ◌*◌, [], ◌∷◌, ◌++◌, IfOk, IfSome, None, OnOk, OnErr, IsErrOf, IsTrue, length, slice_get, option_copied, sum_by};
 ghost use Rattle.qtc_base.specs.Items.{most_bytes, most_items, total_bytes, HasRoom, PassesLimit};
-ghost use Rattle.qtc_base.specs.Pieces.{begin_of};
+ghost use Rattle.qtc_base.specs.ItemsInside.{IsOneMore, text_in};
+ghost use Rattle.qtc_base.specs.Parts.{AreWithin, part_len, parts_of};
 
-use crate::NoMemory;
+use crate::{Bytes, NoMemory, Range};
 use std::alloc::{AllocError, AllocFailed, Global};
 use std::marker::Model;
+use std::sync::Arc;
 
 /// The most items that one list holds.
 pub const MOST_ITEMS: usize = 8_388_608;
@@ -32,40 +35,71 @@ impl From<AllocError> for PushFault {
     }
 }
 
-/// Where the item at `place` begins, which is where the one before it ends.
-fn begin_at(ends: &[u32], place: usize) -> usize
-    requires { place ≤ length ends.now }
-    ensures { result ≡ begin_of 0 ends.now place }
+/// The text in which items lie.
+fn text_of<'a>(shared: &'a Option<Arc<Bytes>>, own: &'a Vec<u8>) -> &'a [u8]
+    ensures { result.now ≡ text_in shared.now own.now.items }
 {
-    match place {
-        0 => 0,
-        _ => ends[place - 1] as usize,
+    match shared {
+        Some(text) => text.as_slice(),
+        None => own.as_slice(),
     }
 }
 
-/// Appends an item to the buffer, and where it ends to the ends. An Err leaves both as they were.
-fn append_item(bytes: &mut Vec<u8>, ends: &mut Vec<u32>, item: &[u8]) -> Result<(), AllocError>
-    requires { length (bytes.old.items ++ item.now) ≤ most_bytes }
-    ensures bytes { OnOk result (bytes.new.items ≡ bytes.old.items ++ item.now) }
-    ensures ends { OnOk result (ends.new.items ≡ ends.old.items ++ length (bytes.old.items ++ item.now) ∷ []) }
-    ensures err { OnErr result ((bytes.new.items ≡ bytes.old.items) × (ends.new.items ≡ ends.old.items)) }
+/// Copies a shared text into the own one, where there is such. An Err leaves both as they were.
+fn take_over(shared: &mut Option<Arc<Bytes>>, own: &mut Vec<u8>) -> Result<(), AllocError>
+    requires { IfSome shared.old (λ text. own.old.items ≡ []) }
+    ensures ok { OnOk result ((shared.new ≡ None) × (own.new.items ≡ text_in shared.old own.old.items)) }
+    ensures err { OnErr result ((shared.new ≡ shared.old) × (own.new.items ≡ own.old.items)) }
 {
-    let before = bytes.len();
-    bytes.extend_from_slice(item)?;
-    let end = bytes.len() as u32;
-    if ends.push(end).is_err() {
-        bytes.truncate(before);
-        return Err(AllocError);
+    if let Some(text) = shared {
+        own.extend_from_slice(text.as_slice())?;
     }
+    *shared = None;
     Ok(())
 }
 
-/// The items of a job. Contracts see a list of byte strings; the bytes lie one after another in one
-/// buffer, so that an item costs its bytes and one number.
+/// Appends an item to the text, and where it lies to the parts. An Err leaves both as they were.
+fn append_item(own: &mut Vec<u8>, parts: &mut Vec<Range>, item: &[u8]) -> Result<(), AllocError>
+    requires { length own.old.items + length item.now ≤ 2 * most_bytes }
+    ensures own { OnOk result (own.new.items ≡ own.old.items ++ item.now) }
+    ensures parts { OnOk result (IsOneMore own.old.items item.now parts.old.items parts.new.items) }
+    ensures err { OnErr result ((own.new.items ≡ own.old.items) × (parts.new.items ≡ parts.old.items)) }
+{
+    let before = own.len();
+    own.extend_from_slice(item)?;
+    let begin = before as u32;
+    let end = own.len() as u32;
+    match parts.push(Range { begin, end }) {
+        Ok(()) => Ok(()),
+        Err(_part) => {
+            own.truncate(before);
+            Err(AllocError)
+        }
+    }
+}
+
+/// How many bytes the parts have together.
+fn total_of(parts: &[Range]) -> usize
+    requires { sum_by part_len parts.now ≤ most_bytes }
+    ensures { result ≡ sum_by part_len parts.now }
+{
+    let mut total = 0;
+    for part in parts {
+        total += (part.end - part.begin) as usize;
+    }
+    total
+}
+
+/// The items of a job. Contracts see a list of byte strings. Items that are pushed lie one after another in a text of the
+/// list's own; others are parts of a text that is shared, so that an item costs two numbers beside its bytes.
 #[derive(Drop)]
 pub struct Items {
-    bytes: Vec<u8>,
-    ends: Vec<u32>,
+    // A shared text, where there is one; the own one is empty then.
+    shared: Option<Arc<Bytes>>,
+    own: Vec<u8>,
+    parts: Vec<Range>,
+    // How many bytes the items have together.
+    total: usize,
 }
 
 impl Model for Items {
@@ -86,8 +120,10 @@ impl Items {
         ensures { result ≡ [] }
     {
         Items {
-            bytes: Vec::new(alloc),
-            ends: Vec::new(alloc),
+            shared: None,
+            own: Vec::new(alloc),
+            parts: Vec::new(alloc),
+            total: 0,
         }
     }
 
@@ -95,9 +131,30 @@ impl Items {
     pub fn with_capacity(alloc: Global, items: usize, bytes: usize) -> Result<Items, NoMemory>
         ensures { IfOk result (λ list. list ≡ []) }
     {
-        let bytes = Vec::with_capacity(alloc, bytes)?;
-        let ends = Vec::with_capacity(alloc, items)?;
-        Ok(Items { bytes, ends })
+        let own = Vec::with_capacity(alloc, bytes)?;
+        let parts = Vec::with_capacity(alloc, items)?;
+        Ok(Items {
+            shared: None,
+            own,
+            parts,
+            total: 0,
+        })
+    }
+
+    /// The parts of a text that others share, in order. No byte is copied.
+    pub fn of_parts(alloc: Global, text: Arc<Bytes>, parts: Vec<Range>) -> Items
+        requires short { length (arc_value text) ≤ most_bytes }
+        requires within { AreWithin (arc_value text) parts.items }
+        requires fits { ¬ PassesLimit (parts_of (arc_value text) parts.items) }
+        ensures { result ≡ parts_of (arc_value text) parts.items }
+    {
+        let total = total_of(&parts);
+        Items {
+            shared: Some(text),
+            own: Vec::new(alloc),
+            parts,
+            total,
+        }
     }
 
     /// Appends a copy of `item`. An Err leaves the list as it was.
@@ -109,7 +166,9 @@ impl Items {
         if !self.has_room(item.len()) {
             return Err(PushFault::Full);
         }
-        append_item(&mut self.bytes, &mut self.ends, item)?;
+        take_over(&mut self.shared, &mut self.own)?;
+        append_item(&mut self.own, &mut self.parts, item)?;
+        self.total += item.len();
         Ok(())
     }
 
@@ -117,7 +176,7 @@ impl Items {
     fn has_room(&self, len: usize) -> bool
         ensures { IsTrue result ↔ HasRoom self.now len }
     {
-        self.ends.len() < MOST_ITEMS && len <= MOST_BYTES - self.bytes.len()
+        self.parts.len() < MOST_ITEMS && len <= MOST_BYTES - self.total
     }
 
     /// The item at `index`, from 0; None exactly at or past the length.
@@ -125,39 +184,39 @@ impl Items {
         ensures { option_copied result ≡ slice_get self.now index }
     {
         let place = index as usize;
-        if place >= self.ends.len() {
+        if place >= self.parts.len() {
             return None;
         }
-        let begin = begin_at(&self.ends, place);
-        let end = self.ends[place] as usize;
-        Some(&self.bytes[begin..end])
+        let part = self.parts[place];
+        let text = text_of(&self.shared, &self.own);
+        Some(&text[part.begin as usize..part.end as usize])
     }
 
     /// The number of items.
     pub fn len(&self) -> u32
         ensures { result ≡ length self.now }
     {
-        self.ends.len() as u32
+        self.parts.len() as u32
     }
 
     pub fn is_empty(&self) -> bool
         ensures { IsTrue result ↔ (self.now ≡ []) }
     {
-        self.ends.is_empty()
+        self.parts.is_empty()
     }
 
     /// The number of bytes that the items have together.
     pub fn bytes(&self) -> u64
         ensures { result ≡ total_bytes self.now }
     {
-        self.bytes.len() as u64
+        self.total as u64
     }
 }
 
 #[cfg(test)]
 mod tests {
     use super::*;
-    use crate::Bytes;
+    use crate::line_parts;
     use std::test::Fail;
 
     #[test]
@@ -177,6 +236,31 @@ mod tests {
         ] {
             assert!(rt; items.get(index) == want, "at {index}");
         }
+        Ok(())
+    }
+
+    // Each line of the text as an item.
+    fn lines_of(alloc: Global, text: &Arc<Bytes>) -> Result<Items, NoMemory>
+        requires { length (arc_value text.now) ≤ 10 }
+    {
+        let parts = line_parts(alloc, text.as_slice(), 4)?;
+        let shared = Arc::try_clone(text)?;
+        Ok(Items::of_parts(alloc, shared, parts))
+    }
+
+    #[test]
+    fn items_lie_in_a_shared_text_until_one_is_pushed(rt: HostRuntime) -> Result<(), Fail> {
+        let text = Arc::new(rt.alloc(), Bytes::from_slice(rt.alloc(), b"ab\n\nc\n")?)?;
+        assert!(rt; text.len() <= 10);
+        let mut items = lines_of(rt.alloc(), &text)?;
+        assert_eq!(rt; (items.len(), items.bytes()), (3, 3));
+        items.push(b"de")?;
+        assert_eq!(rt; (items.len(), items.bytes()), (4, 5));
+        for (index, want) in [(0, b"ab".as_slice()), (1, b""), (2, b"c"), (3, b"de")] {
+            assert!(rt; items.get(index) == Some(want), "at {index}");
+        }
+        assert!(rt; items.get(4).is_none());
+        assert!(rt; text.as_slice() == b"ab\n\nc\n".as_slice());
         Ok(())
     }
 

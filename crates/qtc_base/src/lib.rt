@@ -22,7 +22,7 @@ pub use laws::{
     escapes_are_read_once, lines_are_cut_at_line_feeds, lines_are_the_only_cut,
     words_are_maximal_runs,
 };
-pub use line_cut::Lines;
+pub use line_cut::{Lines, line_parts};
 pub use lists::List;
 pub use memory::NoMemory;
 pub use ranges::Range;

@@ -1,8 +1,9 @@
 -- Texts under their names, in a table.
 use Rattle.std.proofs.Common.{◌≡◌, ℕ, ◌<◌, ◌≤◌, Bool, true, false, cond, List, [], ◌∷◌, ◌++◌, length, map, Option, Some, None, Bor, refl, ap, sym, ◌∙◌, ⊎_elim, arith}
 use Rattle.indexmap.specs.IndexMap.{insert_entry}
-use Rattle.std.specs.Prelude.{All, IsSome, option_copied}
+use Rattle.std.specs.Prelude.{All, IsSome, is_some, option_copied}
 use Rattle.std.specs.Map.{lookup}
+use Rattle.std.specs.Option.{option_map}
 use Rattle.std.specs.Str.{bytes_eq}
 use Rattle.std.proofs.lemmas.Bool.{cases_Bool, cases_lt}
 use Rattle.std.proofs.lemmas.Cmp.{nat_list_eq_equiv}
@@ -17,36 +18,48 @@ cond-none : (b : Bool) (text : List ℕ) (o : Option (List ℕ)) → cond b (Som
 cond-none true text o e = absurd (let f : Some text ≡ None = e in cc)
 cond-none false text o e = (refl, e)
 
--- ---- a table whose names are seen as lists of bytes
+-- what is made of a choice between something found and the rest
+map-cond : {V : Type 0} (value : V → List ℕ) (b : Bool) (v : V) (o : Option V) → option_map value (cond b (Some v) o) ≡ cond b (Some (value v)) (option_map value o)
+map-cond value true v o = refl
+map-cond value false v o = refl
 
-module _ {K : Type 0} (bytes : K → List ℕ) where
-  abbrev seen : List (K × List ℕ) → List (List ℕ × List ℕ)
-  seen entries = map (λ entry. (bytes entry.0, entry.1)) entries
+-- ---- a table whose names and texts are seen as lists of bytes
+
+module _ {K V : Type 0} (bytes : K → List ℕ) (value : V → List ℕ) where
+  abbrev seen : List (K × V) → List (List ℕ × List ℕ)
+  seen entries = map (λ entry. (bytes entry.0, value entry.1)) entries
 
   -- what is looked up in the table is the text under the name
-  pub lookup-under : (name : List ℕ) (entries : List (K × List ℕ)) → lookup (λ k. bytes_eq name (bytes k)) entries ≡ text_under (seen entries) name
+  pub lookup-under : (name : List ℕ) (entries : List (K × V)) → option_map value (lookup (λ k. bytes_eq name (bytes k)) entries) ≡ text_under (seen entries) name
   lookup-under name [] = refl
   lookup-under name (entry ∷ entries) =
-      ap (λ b. cond b (Some entry.1) (lookup (λ k. bytes_eq name (bytes k)) entries)) (nat_list_eq_equiv.symm name (bytes entry.0))
-      ∙ ap (λ o. cond (bytes_eq (bytes entry.0) name) (Some entry.1) o) (lookup-under name entries)
+      map-cond value (bytes_eq name (bytes entry.0)) entry.1 (lookup (λ k. bytes_eq name (bytes k)) entries)
+      ∙ (ap (λ b. cond b (Some (value entry.1)) (option_map value (lookup (λ k. bytes_eq name (bytes k)) entries))) (nat_list_eq_equiv.symm name (bytes entry.0))
+      ∙ ap (λ o. cond (bytes_eq (bytes entry.0) name) (Some (value entry.1)) o) (lookup-under name entries))
 
   -- a text under a new name goes last
-  insert-seen : (k : K) (text : List ℕ) (entries : List (K × List ℕ)) → text_under (seen entries) (bytes k) ≡ None → seen (insert_entry (λ a b. bytes_eq (bytes a) (bytes b)) entries k text) ≡ seen entries ++ (bytes k, text) ∷ []
-  insert-seen k text [] none = refl
-  insert-seen k text (entry ∷ entries) none =
-      let parts = cond-none (bytes_eq (bytes entry.0) (bytes k)) entry.1 (text_under (seen entries) (bytes k)) none in
+  insert-seen : (k : K) (v : V) (entries : List (K × V)) → text_under (seen entries) (bytes k) ≡ None → seen (insert_entry (λ a b. bytes_eq (bytes a) (bytes b)) entries k v) ≡ seen entries ++ (bytes k, value v) ∷ []
+  insert-seen k v [] none = refl
+  insert-seen k v (entry ∷ entries) none =
+      let parts = cond-none (bytes_eq (bytes entry.0) (bytes k)) (value entry.1) (text_under (seen entries) (bytes k)) none in
       let other : bytes_eq (bytes k) (bytes entry.0) ≡ false = nat_list_eq_equiv.symm (bytes k) (bytes entry.0) ∙ parts.0 in
-      ap (λ b. seen (cond b ((entry.0, text) ∷ entries) (entry ∷ insert_entry (λ a b. bytes_eq (bytes a) (bytes b)) entries k text))) other
-      ∙ ap (λ es. (bytes entry.0, entry.1) ∷ es) (insert-seen k text entries parts.1)
+      ap (λ b. seen (cond b ((entry.0, v) ∷ entries) (entry ∷ insert_entry (λ a b. bytes_eq (bytes a) (bytes b)) entries k v))) other
+      ∙ ap (λ es. (bytes entry.0, value entry.1) ∷ es) (insert-seen k v entries parts.1)
 
-  pub seen-insert : (name text : List ℕ) (k : K) (entries fs : List (K × List ℕ)) → bytes k ≡ name → text_under (seen entries) name ≡ None → fs ≡ insert_entry (λ a b. bytes_eq (bytes a) (bytes b)) entries k text → seen fs ≡ seen entries ++ (name, text) ∷ []
-  seen-insert name text k entries fs is none put =
-      ap seen put ∙ (insert-seen k text entries (ap (text_under (seen entries)) is ∙ none) ∙ ap (λ n. seen entries ++ (n, text) ∷ []) is)
+  pub seen-insert : (name text : List ℕ) (k : K) (v : V) (entries fs : List (K × V)) → bytes k ≡ name → value v ≡ text → text_under (seen entries) name ≡ None → fs ≡ insert_entry (λ a b. bytes_eq (bytes a) (bytes b)) entries k v → seen fs ≡ seen entries ++ (name, text) ∷ []
+  seen-insert name text k v entries fs is holds none put =
+      ap seen put
+      ∙ (insert-seen k v entries (ap (text_under (seen entries)) is ∙ none)
+      ∙ (ap (λ n. seen entries ++ (n, value v) ∷ []) is ∙ ap (λ t. seen entries ++ (name, t) ∷ []) holds))
 
--- what the table gives, as what it points to
-pub some-copied : {X : Type 0} (o : Option (Bor X)) → IsSome (option_copied o) → IsSome o
-some-copied None h = h
-some-copied (Some x) h = refl
+  -- where there is a text under the name, the table gives something
+  pub some-found : (name : List ℕ) (entries : List (K × V)) (o : Option (Bor V)) → option_copied o ≡ lookup (λ k. bytes_eq name (bytes k)) entries → IsSome (text_under (seen entries) name) → IsSome o
+  some-found name entries None is some = ap (λ found. is_some (option_map value found)) is ∙ (ap is_some (lookup-under name entries) ∙ some)
+  some-found name entries (Some x) is some = refl
+
+  -- and what it gives is that text
+  pub found-under : (name : List ℕ) (entries : List (K × V)) (o : Option (Bor V)) (it : Bor V) → option_copied o ≡ lookup (λ k. bytes_eq name (bytes k)) entries → o ≡ Some it → text_under (seen entries) name ≡ Some (value it.now)
+  found-under name entries o it is some = sym (lookup-under name entries) ∙ (ap (option_map value) (sym is) ∙ ap (λ o. option_map value (option_copied o)) some)
 
 -- ---- a text more
 

@@ -1,4 +1,5 @@
-ghost use Rattle.std.specs.Prelude.{◌≡◌, ◌≤◌, [], ◌∷◌, ◌++◌, length, None, IsSome, OnOk, OnErr, option_copied};
+ghost use Rattle.std.specs.Prelude.{◌≡◌, ◌≤◌, [], ◌∷◌, ◌++◌, length, None, IsSome, OnOk, OnErr, IfOk, option_copied};
+ghost use Rattle.std.specs.Arc.{arc_value};
 ghost use Rattle.qtc_outside.specs.Shelf.{text_under};
 ghost use Rattle.qtc_run.specs.Loaded.{most_text};
 ghost use Rattle.qtc_run.specs.Sources.{text_of};
@@ -7,12 +8,14 @@ use indexmap::IndexMap;
 use qtc_base::{Bytes, NoMemory};
 use std::alloc::Global;
 use std::marker::Model;
+use std::sync::Arc;
 
 /// The texts of a run, each under its name. Contracts see the list of the names with their texts, in the order in
-/// which they were added; a name is looked up in a table.
+/// which they were added; a name is looked up in a table. A text can be shared with the items that lie in it.
 #[derive(Drop)]
 pub struct Loaded {
-    texts: IndexMap<Vec<u8>, Bytes>,
+    alloc: Global,
+    texts: IndexMap<Vec<u8>, Arc<Bytes>>,
 }
 
 impl Model for Loaded {
@@ -34,6 +37,7 @@ impl Loaded {
         ensures { result ≡ [] }
     {
         Loaded {
+            alloc,
             texts: IndexMap::new(alloc),
         }
     }
@@ -45,6 +49,7 @@ impl Loaded {
         ensures ok { OnOk result (self.new ≡ self.old ++ (name, text) ∷ []) }
         ensures err { OnErr result (self.new ≡ self.old) }
     {
+        let text = Arc::new(self.alloc, text)?;
         self.texts.insert(name.into_vec(), text)?;
         Ok(())
     }
@@ -66,5 +71,15 @@ impl Loaded {
         ensures short { length result.now ≤ most_text }
     {
         self.texts.get(name).unwrap().as_slice()
+    }
+
+    /// The same, shared: no byte is copied. Err is want of memory.
+    pub(crate) fn shared(&self, name: &[u8]) -> Result<Arc<Bytes>, NoMemory>
+        requires { IsSome (text_under self.now name.now) }
+        ensures text { IfOk result (λ text. arc_value text ≡ text_of self.now name.now) }
+        ensures short { IfOk result (λ text. length (arc_value text) ≤ most_text) }
+    {
+        let text = Arc::try_clone(self.texts.get(name).unwrap())?;
+        Ok(text)
     }
 }

@@ -3,13 +3,13 @@ use Rattle.std.proofs.lemmas.Grind.{common_steps}
 use Rattle.qtc_run.specs.Sources.{pieces_of}
 use Rattle.qtc_run.proofs.PieceLemmas.{pieces-step, pieces-end}
 use Rattle.qtc_run.proofs.SumLemmas.{one-fits}
-use Rattle.qtc_run.proofs.sources.append_pieces.Goals as goal
+use Rattle.qtc_run.proofs.sources.piece_items.Goals as goal
 
 pub append_item-requires : goal.append_item-requires
 append_item-requires c =
     let filled : 1 ≤ length c.loop-rest.rest.now = grind (arith, common_steps) in
     let more = pieces-step c.args.size c.min.result c.loop-rest.rest.now c.split_at.result.0.now c.split_at.result.1.now c.requires.some filled c.min.ensures c.split_at.ensures.front c.split_at.ensures.back in
-    one-fits c.loop-rest.items c.split_at.result.0.now (pieces_of c.args.size c.split_at.result.1.now) (c.args.items.now ++ pieces_of c.args.size c.args.text.now)
+    one-fits c.loop-rest.items c.split_at.result.0.now (pieces_of c.args.size c.split_at.result.1.now) (pieces_of c.args.size c.args.text.now)
     (c.loop-rest.invariant ∙ ap (λ ps. c.loop-rest.items ++ ps) more) c.requires.fits
 
 pub loop-rest-preserved : goal.loop-rest-preserved

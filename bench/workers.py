@@ -4,8 +4,8 @@
     bench/workers.py [ROUNDS [PROGRAM]]     7 rounds where no number is given
 
 The jobs are maps of the 1,000,000 numbers that bench/lines.py makes, and of 63 lines of 1 MiB. All rows are run in turn,
-so many rounds of them. A row has the median of its seconds, the median of the rounds' ratios to one worker, and its
-greatest peak of memory. The other build is run with no word about workers.
+so many rounds of them. A row has the median of its seconds, the median of the rounds' ratios to one worker of the same
+build, and its greatest peak of memory.
 """
 import os
 import statistics
@@ -27,37 +27,37 @@ JOBS = [
 ]
 
 
-def rows_of(place, other):
-    """Each row of a job: what stands before its time, and the words of the run."""
-    _, _, _, _, workers = JOBS[place]
-    file = f"{place}.job"
-    rows = [(f"{count} workers", [QTC, "run", "--workers", str(count), file]) for count in workers]
-    return rows + ([("the other build", [other, "run", file])] if other else [])
-
-
 def main():
     rounds = int(sys.argv[1]) if len(sys.argv) > 1 else 7
-    other = os.path.abspath(sys.argv[2]) if len(sys.argv) > 2 else None
+    builds = [("", QTC)] + [(", the other build", os.path.abspath(other)) for other in sys.argv[2:3]]
     subprocess.run([str(TOP / "qtc")], stdout=subprocess.DEVNULL, stderr=subprocess.DEVNULL, cwd=TOP)
     with tempfile.TemporaryDirectory() as folder:
         make_text(os.path.join(folder, "numbers"), 1_000_000)
-        Path(folder, "long").write_bytes(b"".join(bytes([32 + at]) * MIB + b"\n" for at in range(63)))
+        # In pieces, since a child's peak of memory is at least that of this script.
+        with open(os.path.join(folder, "long"), "wb") as text:
+            for at in range(63):
+                text.write(bytes([32 + at]) * MIB + b"\n")
         for place, (_, text, operation, blocks, _) in enumerate(JOBS):
             job = f"job a\ninput lines {text}\nmap {operation}\nblocks {blocks}\n"
             Path(folder, f"{place}.job").write_text(job)
-        took = {}
+        rows = [
+            (place, count, build)
+            for place, (*_, workers) in enumerate(JOBS)
+            for count in workers
+            for build in builds
+        ]
+        took = {row: [] for row in rows}
         for _ in range(rounds):
-            for place in range(len(JOBS)):
-                for row, words in rows_of(place, other):
-                    took.setdefault((place, row), []).append(timed(words, folder))
-        for place, (name, *_) in enumerate(JOBS):
-            print(name)
-            one = [seconds for seconds, _ in took[place, "1 workers"]]
-            for row, _ in rows_of(place, other):
-                seconds = [seconds for seconds, _ in took[place, row]]
-                ratio = statistics.median(it / of for it, of in zip(seconds, one))
-                peak = max(peak for _, peak in took[place, row])
-                print(f"  {row:<16} {statistics.median(seconds):7.3f} s  {ratio:5.2f} of one  {peak:9} KB")
+            for place, count, (name, program) in rows:
+                words = [program, "run", "--workers", str(count), f"{place}.job"]
+                took[place, count, (name, program)].append(timed(words, folder))
+    for place, count, build in rows:
+        seconds = [it for it, _ in took[place, count, build]]
+        one = [it for it, _ in took[place, 1, build]]
+        ratio = statistics.median(it / of for it, of in zip(seconds, one))
+        peak = max(it for _, it in took[place, count, build])
+        label = f"{JOBS[place][0]}, {count} workers{build[0]}"
+        print(f"  {label:<58} {statistics.median(seconds):7.3f} s  {ratio:5.2f} of one  {peak:9} KB")
 
 
 if __name__ == "__main__":

@@ -5,7 +5,8 @@ use Rattle.std.proofs.lemmas.Grind.{common_steps}
 use Rattle.std.proofs.lemmas.List.{map-append}
 use Rattle.std.proofs.lemmas.List.Elements.{All-append, All-cons, All-head, All-nil, All-tail}
 use Rattle.std.proofs.lemmas.List.Sums.{sum_by-append, sum_by-cons}
-use Rattle.qtc_base.specs.Items.{most_bytes, most_items, total_bytes, PassesLimit}
+use Rattle.qtc_base.specs.Items.{total_bytes, PassesLimit}
+use Rattle.qtc_base.specs.Limits.{most_bytes, most_items}
 use Rattle.qtc_base.specs.ItemsInside.{IsOneMore}
 use Rattle.qtc_base.specs.Parts.{AreWithin, part_len, part_of, parts_of}
 use Rattle.qtc_base.specs.declared.ranges.Range.{Range}

@@ -6,5 +6,6 @@ pub mod EscapeLaws
 pub mod EscapeLemmas
 pub mod ItemLemmas
 pub mod NumberLaws
+pub mod SharedLemmas
 pub mod WordLaws
 pub mod WordLemmas

@@ -1,14 +1,14 @@
 -- Where the first line of a text ends.
 use Rattle.std.proofs.Common.{◌≡◌, ℕ, zero, suc, ◌+◌, ◌-◌, ◌<◌, ◌≤◌, List, [], ◌∷◌, ◌++◌, length, take, drop, get_or, eqb, true, refl, ap, subst, sym, ◌∙◌, ⊎_elim, arith}
 use Rattle.std.specs.List.{onto_first}
-use Rattle.std.proofs.lemmas.Bool.{false_from_ne_true}
+use Rattle.std.proofs.lemmas.Bool.{false_from_ne_true, cases_Bool}
 use Rattle.std.proofs.lemmas.Grind.{common_steps}
 use Rattle.std.specs.Prelude.{All, slice_range}
-use Rattle.std.proofs.lemmas.Bool.{cases_Bool}
 use Rattle.std.proofs.lemmas.List.Sums.{sum_by-cons}
 use Rattle.qtc_base.specs.Items.{total_bytes}
 use Rattle.std.proofs.lemmas.List.{append_assoc, map-append}
 use Rattle.std.proofs.lemmas.List.Elements.{All-append, All-cons, All-nil}
+use Rattle.qtc_base.proofs.SharedLemmas.{onto-bytes, onto-most}
 use Rattle.qtc_base.specs.Lines.{lines}
 use Rattle.qtc_base.specs.Parts.{AreWithin, part_of, parts_of}
 use Rattle.qtc_base.specs.declared.ranges.Range.{Range}
@@ -56,14 +56,6 @@ found_more text old new part begin end new_is begin_is end_is below line within 
 
 -- ---- no text has more lines than bytes
 
-onto_number : (byte : ℕ) (ls : List (List ℕ)) → length (onto_first byte ls) ≤ length ls + 1
-onto_number byte [] = omega arith
-onto_number byte (l ∷ ls) = omega arith
-
-onto_bytes : (byte : ℕ) (ls : List (List ℕ)) → total_bytes (onto_first byte ls) ≡ 1 + total_bytes ls
-onto_bytes byte [] = refl
-onto_bytes byte (l ∷ ls) = let more = sum_by-cons length (byte ∷ l) ls in let less = sum_by-cons length l ls in omega arith
-
 pub lines_short : (text : List ℕ) → (length (lines text) ≤ length text) × (total_bytes (lines text) ≤ length text)
 lines_short [] = (omega arith, omega arith)
 lines_short (byte ∷ text) =
@@ -79,7 +71,7 @@ lines_short (byte ∷ text) =
     (λ other.
     let cut : lines (byte ∷ text) ≡ onto_first byte (lines text) = rw other refl in
     let count = ap length cut in
-    let more = onto_number byte (lines text) in
-    let size : total_bytes (lines (byte ∷ text)) ≡ 1 + total_bytes (lines text) = ap total_bytes cut ∙ onto_bytes byte (lines text) in
+    let more = onto-most byte (lines text) in
+    let size : total_bytes (lines (byte ∷ text)) ≡ 1 + total_bytes (lines text) = ap total_bytes cut ∙ onto-bytes byte (lines text) in
     (omega arith, omega arith))
     (cases_Bool (eqb byte 10))

@@ -1,13 +1,6 @@
--- A list of items, and its limits.
+-- A list of items that keeps the limits.
 use Rattle.std.specs.Prelude.{ℕ, ◌<◌, ◌≤◌, ◌+◌, ◌⊎◌, List, length, sum_by}
-
--- the most items that one list holds (own)
-abbrev pub most_items : ℕ
-most_items = 8388608
-
--- the most bytes that the items of one list have together (own)
-abbrev pub most_bytes : ℕ
-most_bytes = 536870912
+use Rattle.qtc_base.specs.Limits.{most_bytes, most_items}
 
 -- how many bytes the items have together
 abbrev pub total_bytes : List (List ℕ) → ℕ

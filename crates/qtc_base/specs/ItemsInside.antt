@@ -2,7 +2,8 @@
 use Rattle.std.specs.Prelude.{◌≡◌, ℕ, ◌+◌, ◌≤◌, List, [], ◌∷◌, ◌++◌, Option, None, Some, IfSome, length}
 use Rattle.std.specs.Arc.{arc_value}
 use Rattle.std.specs.declared.sync.Arc.{Arc}
-use Rattle.qtc_base.specs.Items.{most_items, most_bytes, total_bytes}
+use Rattle.qtc_base.specs.Items.{total_bytes}
+use Rattle.qtc_base.specs.Limits.{most_items, most_bytes}
 use Rattle.qtc_base.specs.Parts.{AreWithin, parts_of}
 use Rattle.qtc_base.specs.declared.item_list.Items.TheInside.{Inside}
 use Rattle.qtc_base.specs.declared.ranges.Range.{Range}

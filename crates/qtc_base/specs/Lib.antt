@@ -4,7 +4,9 @@ pub mod Escape
 pub mod Items
 pub mod ItemsInside
 pub mod Laws
+pub mod Limits
 pub mod Lines
+pub mod Pairs
 pub mod Parts
 pub mod Ranges
 pub mod Words

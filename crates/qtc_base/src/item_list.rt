@@ -1,19 +1,14 @@
 ghost use Rattle.std.specs.Arc.{arc_value};
 ghost use Rattle.std.specs.Prelude.{◌≡◌, ◌≤◌, ◌↔◌, ◌+◌, ◌*◌, [], ◌∷◌, ◌++◌, IfOk, IfSome, None, OnOk, OnErr, IsErrOf, IsTrue, length, slice_get, option_copied, sum_by};
-ghost use Rattle.qtc_base.specs.Items.{most_bytes, most_items, total_bytes, HasRoom, PassesLimit};
+ghost use Rattle.qtc_base.specs.Items.{total_bytes, HasRoom, PassesLimit};
+ghost use Rattle.qtc_base.specs.Limits.{most_bytes, most_items};
 ghost use Rattle.qtc_base.specs.ItemsInside.{IsOneMore, text_in};
 ghost use Rattle.qtc_base.specs.Parts.{AreWithin, part_len, parts_of};
 
-use crate::{Bytes, NoMemory, Range};
+use crate::{Bytes, MOST_BYTES, MOST_ITEMS, NoMemory, Range};
 use std::alloc::{AllocError, AllocFailed, Global};
 use std::marker::Model;
 use std::sync::Arc;
-
-/// The most items that one list holds.
-pub const MOST_ITEMS: usize = 8_388_608;
-
-/// The most bytes that the items of one list have together.
-pub const MOST_BYTES: usize = 536_870_912;
 
 /// Why an item was not taken.
 #[derive(Clone, Copy, Debug, PartialEq, Eq)]

@@ -1,6 +1,6 @@
 ghost use Rattle.std.specs.Prelude.{◌≡◌, ◌≤◌, ◌<◌, ◌+◌, ◌∷◌, List, ℕ, IfOk, drop, length, slice_range};
 ghost use Rattle.std.specs.Iterator.{YieldsFirstBy, item_count};
-ghost use Rattle.qtc_base.specs.Items.{most_bytes};
+ghost use Rattle.qtc_base.specs.Limits.{most_bytes};
 ghost use Rattle.qtc_base.specs.Lines.{lines};
 ghost use Rattle.qtc_base.specs.Parts.{AreWithin, parts_of};
 

@@ -6,10 +6,10 @@ use Rattle.std.proofs.lemmas.List.{map-append}
 use Rattle.std.proofs.lemmas.List.Elements.{All-pop}
 use Rattle.std.proofs.lemmas.List.Concat.{flat_map-append}
 use native.Mathlib.Decide.{dec_lt}
-use Rattle.qtc_base.specs.Ranges.{in_range, times_covered, Tiles}
+use Rattle.qtc_base.specs.Ranges.{in_range, times_covered, Tiles, times_called}
 use Rattle.qtc_claim.specs.Claims.{Addition, added, Worker, new_worker, claims_of, clipped}
 use Rattle.qtc_claim.specs.Counter.{CounterId, PieceState, TallyState, ClaimsPiece, ClaimsNone, HasAll, IsEnd, KnowsClaims, added_by}
-use Rattle.qtc_claim.specs.Laws.{times_called, AreCalls, EachOnce, CallsComeTogether, NoneMissing, added_for}
+use Rattle.qtc_claim.specs.Laws.{AreCalls, EachOnce, CallsComeTogether, NoneMissing, added_for}
 
 pub calls_together : (n : ℕ) (claims more : List Addition) (calls further : List ℕ) → AreCalls n claims calls → AreCalls n more further → AreCalls n (claims ++ more) (calls ++ further)
 calls_together n claims more calls further are are' index =

@@ -6,7 +6,8 @@ use Rattle.std.proofs.lemmas.List.Elements.{All-head}
 use Rattle.qtc_base.specs.Ranges.{Tiles}
 use Rattle.atomic_table.specs.Seated.{TableId}
 use Rattle.qtc_claim.specs.declared.rule.View.{View}
-use Rattle.qtc_claim.specs.Claims.{IsWithinLimits, most_indexes, most_workers, most_size, Addition, addition_at, Worker, new_worker, added, added_past, claims_of, clipped, gave, times_numbered, MeetNowhere, after_load, after_addition}
+use Rattle.qtc_claim.specs.Claims.{IsWithinLimits, Addition, addition_at, Worker, new_worker, added, added_past, claims_of, clipped, gave, times_numbered, MeetNowhere, after_load, after_addition}
+use Rattle.qtc_base.specs.Limits.{most_items, most_workers, most_block}
 use Rattle.qtc_claim.specs.Rule.{worker_view, covers, covering, blank, claimed, kept, KnowsAll, Knows, looked, grown, made, Looks, Grows}
 use Rattle.qtc_claim.specs.Counter.{CounterId, SeatState, PieceState, TallyState, Sees, ClaimsPiece, IsGathered, HasAll, IsEnd, KnowsClaims, added_by}
 use Rattle.atomic_table.specs.declared.shared.Seat.{Seat}
@@ -14,7 +15,7 @@ use Rattle.qtc_claim.specs.declared.counter.Counter.TheInside.{Inside}
 use Rattle.qtc_claim.specs.Inside.{counter_id, IsCounter, IsWorker, worker_of, seat_of, in_hand, of_seat, tally_of, HasRead}
 use Rattle.qtc_claim.proofs.Sums.{pushed_each, of_claims, apart_from, tiles_from, covers_below, covers_none, covers_upto, blank_below, gave_and_blank, sum_by_none}
 
-pub in_word : (count n workers : ℕ) → n ≤ most_indexes → workers ≤ most_workers → count ≤ n + most_size * workers → count < 2 ^ 64
+pub in_word : (count n workers : ℕ) → n ≤ most_items → workers ≤ most_workers → count ≤ n + most_block * workers → count < 2 ^ 64
 in_word count n workers a b bound = omega arith
 
 -- what a worker's view says of its worker

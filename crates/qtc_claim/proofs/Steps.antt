@@ -12,7 +12,8 @@ use Rattle.atomic_table.proofs.Lists.{set_here, set_else, set_again}
 use Rattle.qtc_lock.proofs.Views.{placed, All-at, All-snoc, sum_by-set_view, sum_by-snoc}
 use Rattle.qtc_claim.specs.declared.rule.View.{View}
 use Rattle.qtc_claim.specs.declared.rule.Limits.{Limits}
-use Rattle.qtc_claim.specs.Claims.{most_indexes, most_workers, most_size, Addition, addition_at, Worker, new_worker, after_load, after_addition}
+use Rattle.qtc_claim.specs.Claims.{Addition, addition_at, Worker, new_worker, after_load, after_addition}
+use Rattle.qtc_base.specs.Limits.{most_items, most_workers, most_block}
 use Rattle.qtc_claim.specs.Rule.{worker_view, spent_view, covers, covering, blank, claimed, kept, saw, numbered, seats, IsRight, AddsUp, Holds, IsKept, KnowsAll, Knows, looked, grown, left_to_make, made, empty_handed, cut, gathered, Looks, Grows, Reads}
 use Rattle.qtc_claim.proofs.Sums.{covers_none, covers_one, covers_on, covers_first, sum_by_nothing, of_held, sum_by_both}
 
@@ -25,7 +26,7 @@ module _ (n most count count' : ℕ) (T T' before after : (View → ℕ) → ℕ
   moves : ((weight : Addition → ℕ) → after (kept n weight) + before (claimed weight) ≡ before (kept n weight) + after (claimed weight))
       → ((number : ℕ) → after (claimed (covering number)) + covers number 0 count ≡ before (claimed (covering number)) + covers number 0 count')
       → after (claimed (λ addition. addition.size)) + count ≡ before (claimed (λ addition. addition.size)) + count'
-      → count' ≤ n + most_size * T' (saw n)
+      → count' ≤ n + most_block * T' (saw n)
       → ((number : ℕ) → after (numbered number) ≡ before (numbered number))
       → after seats ≡ before seats
       → AddsUp n most count' T'
@@ -116,7 +117,7 @@ no_number number view none =
     omega (arith, nothing, empty, few)
 
 module _ (key : Limits) (count : ℕ) (views : List View) (holds : Holds key count views) where
-  pub in_bound : count ≤ key.n + most_size * key.workers
+  pub in_bound : count ≤ key.n + most_block * key.workers
   in_bound =
       let few : over views (saw key.n) ≤ over views seats = sum_by-le-sum_by (saw key.n) seats views (saw_few key.n) in
       omega (arith, holds.sums.bound, holds.sums.places)
@@ -288,7 +289,7 @@ module _ (key : Limits) (worker : Worker) (size : ℕ) where
       by true e = All-cons (λ (it : Addition). it.begin < n) a [] (grind (arith, nat_tests)) (All-nil (λ (it : Addition). it.begin < n))
       by false e = All-nil (λ (it : Addition). it.begin < n)
 
-  grow_keeps : (id count : ℕ) (views : List View) → size ≤ most_size → worker.seen < key.n → Holds key count views → get_elem? views id ≡ some empty
+  grow_keeps : (id count : ℕ) (views : List View) → size ≤ most_block → worker.seen < key.n → Holds key count views → get_elem? views id ≡ some empty
       → Holds key (count + size) (set views id (grown count size empty))
   grow_keeps id count views small below holds at =
       let a : Addition = addition_at count size in
@@ -313,10 +314,10 @@ module _ (key : Limits) (worker : Worker) (size : ℕ) where
             refl;
       }
     where
-      bounded : (n here s s' : ℕ) → worker.seen < n → size ≤ most_size → s' + (0 + cond (nat_le n worker.seen) 1 0) ≡ s + (0 + cond (nat_le n (here + size)) 1 0) → here ≤ n + most_size * s → here + size ≤ n + most_size * s'
+      bounded : (n here s s' : ℕ) → worker.seen < n → size ≤ most_block → s' + (0 + cond (nat_le n worker.seen) 1 0) ≡ s + (0 + cond (nat_le n (here + size)) 1 0) → here ≤ n + most_block * s → here + size ≤ n + most_block * s'
       bounded n here s s' unseen little e bound = grind (arith, nat_tests)
 
-  grow_tells : (id count : ℕ) (views : List View) → size ≤ most_size → worker.seen < key.n → Holds key count views → get_elem? views id ≡ some empty
+  grow_tells : (id count : ℕ) (views : List View) → size ≤ most_block → worker.seen < key.n → Holds key count views → get_elem? views id ≡ some empty
       → Holds key ((count + size) % 2 ^ 64) (set views id (grown count size empty)) × Grows size empty count (grown count size empty)
   grow_tells id count views small below holds at =
       let after = grow_keeps id count views small below holds at in
@@ -326,11 +327,11 @@ module _ (key : Limits) (worker : Worker) (size : ℕ) where
         (refl, (All-at (IsRight key.n count) views id empty at holds.right).seen, knows_view key (count + size) (set views id (grown count size empty)) after id (grown count size empty) (set_here views id (grown count size empty) there.0) refl refl),
       )
     where
-      in_word : (here more n workers : ℕ) → more ≤ most_size → n ≤ most_indexes → workers ≤ most_workers → here ≤ n + most_size * workers → here + more < 2 ^ 64
+      in_word : (here more n workers : ℕ) → more ≤ most_block → n ≤ most_items → workers ≤ most_workers → here ≤ n + most_block * workers → here + more < 2 ^ 64
       in_word here more n workers a b c d = omega arith
 
 -- a worker with nothing in hand, which saw less than n, adds
-pub grows : (key : Limits) (slots id size : ℕ) (worker : Worker) (m : Me (Unit {0}) View) → m ≡ (worker_view key.n key.workers worker [], []) → size ≤ most_size → worker.seen < key.n
+pub grows : (key : Limits) (slots id size : ℕ) (worker : Worker) (m : Me (Unit {0}) View) → m ≡ (worker_view key.n key.workers worker [], []) → size ≤ most_block → worker.seen < key.n
     → Allows (IsKept key) slots id m 0 (λ n. (n + size) % 2 ^ 64) (λ found after. (after.1 ≡ []) × Grows size m.0 found after.0)
 grows key slots id size worker m is small below =
     let v = worker_view key.n key.workers worker [] in

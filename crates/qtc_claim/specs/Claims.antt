@@ -2,21 +2,12 @@
 -- what it became.
 use Rattle.std.specs.Prelude.{◌≡◌, ℕ, ◌+◌, ◌≤◌, ◌==◌, cond, nat_le, nat_lt, List, ◌++◌, [], ◌∷◌, map, filter, sum_by, count_by}
 use Rattle.std.specs.List.{flat_map}
+use Rattle.qtc_base.specs.Limits.{most_items, most_workers}
 use Rattle.qtc_base.specs.Ranges.{times_covered, clip}
-
--- the limits: indexes, workers, and what one addition adds
-abbrev pub most_indexes : ℕ
-most_indexes = 8388608
-
-abbrev pub most_workers : ℕ
-most_workers = 32
-
-abbrev pub most_size : ℕ
-most_size = 65536
 
 -- n indexes, and so many workers, within the limits
 pub record IsWithinLimits (n workers : ℕ) : Type 0 where
-  pub indexes : n ≤ most_indexes
+  pub indexes : n ≤ most_items
   pub one : 1 ≤ workers
   pub few : workers ≤ most_workers
 

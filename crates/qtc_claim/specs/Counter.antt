@@ -2,7 +2,8 @@
 use Rattle.std.specs.Prelude.{◌≡◌, ℕ, ◌+◌, ◌*◌, ◌<◌, ◌≤◌, ◌⊎◌, cond, nat_lt, List, [], Some, map, length, slice_get, All}
 use Rattle.atomic_table.specs.Seated.{TableId}
 use Rattle.qtc_base.specs.Ranges.{Tiles}
-use Rattle.qtc_claim.specs.Claims.{most_size, Addition, Worker, new_worker, after_load, after_addition, added, added_past, times_numbered, claims_of, clipped, gave, AreParts, MeetNowhere}
+use Rattle.qtc_claim.specs.Claims.{Addition, Worker, new_worker, after_load, after_addition, added, added_past, times_numbered, claims_of, clipped, gave, AreParts, MeetNowhere}
+use Rattle.qtc_base.specs.Limits.{most_block}
 
 -- which counter it is, as no other has its table; how many indexes it counts, and for how many workers
 pub record CounterId : Type 0 where
@@ -39,7 +40,7 @@ pub record IsNew (n workers : ℕ) (counter : CounterId) (seats : List SeatState
 -- worker, all that the worker added is in it, and what the worker claimed meets nowhere
 pub record Sees (counter : CounterId) (before after : Worker) : Type 0 where
   pub later : before.seen ≤ after.seen
-  pub bound : after.seen ≤ counter.n + most_size * counter.workers
+  pub bound : after.seen ≤ counter.n + most_block * counter.workers
   pub added : added after.claims ≤ after.seen
   pub apart : MeetNowhere counter.n after.claims
 

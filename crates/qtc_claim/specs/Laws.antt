@@ -1,12 +1,8 @@
 -- The calls on what was claimed. (Own.)
 use Rattle.std.specs.Prelude.{◌≡◌, ℕ, ◌+◌, ◌≤◌, ◌==◌, cond, if◌then◌else◌, nat_lt, List, ◌++◌, All, Result, IfOk, map, sum_by, count_by}
-use Rattle.qtc_base.specs.Ranges.{in_range, times_covered, Tiles}
+use Rattle.qtc_base.specs.Ranges.{in_range, times_called, times_covered, Tiles}
 use Rattle.qtc_claim.specs.Claims.{Addition, clipped, added, added_past, MeetNowhere}
 use Rattle.qtc_claim.specs.Counter.{PieceState}
-
--- how often the index was called
-abbrev pub times_called : List ℕ → ℕ → ℕ
-times_called calls index = count_by (λ call. call == index) calls
 
 -- the list has each index as often as the claims cover it, cut at n
 abbrev pub AreCalls : ℕ → List Addition → List ℕ → Type 0

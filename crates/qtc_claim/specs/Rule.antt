@@ -5,7 +5,8 @@ use Rattle.atomic_table.specs.Table.{State}
 use Rattle.qtc_base.specs.Ranges.{in_range}
 use Rattle.qtc_claim.specs.declared.rule.View.{View}
 use Rattle.qtc_claim.specs.declared.rule.Limits.{Limits}
-use Rattle.qtc_claim.specs.Claims.{IsWithinLimits, most_size, Addition, addition_at, Worker, new_worker, after_load, after_addition, times_numbered}
+use Rattle.qtc_claim.specs.Claims.{IsWithinLimits, Addition, addition_at, Worker, new_worker, after_load, after_addition, times_numbered}
+use Rattle.qtc_base.specs.Limits.{most_block}
 
 -- Views. One shape serves all: what a seat is shows in what its view has. That is the workers that it is or gathered,
 -- the ranges that it holds, and the numbers from `next` on, `unmade` of them, that it has still to give to workers.
@@ -74,7 +75,7 @@ pub record AddsUp (n most count : ℕ) (total : (View → ℕ) → ℕ) : Type 0
   -- and add up to the counter
   pub sizes : total (claimed (λ addition. addition.size)) ≡ count
   -- each worker that saw n or more brought the counter at most so much further
-  pub bound : count ≤ n + most_size * total (saw n)
+  pub bound : count ≤ n + most_block * total (saw n)
   -- each number of a worker was given once, or is still to give
   pub numbers : (number : ℕ) → total (numbered number) ≡ covers number 0 most
   pub places : total seats ≡ most
@@ -104,7 +105,7 @@ pub record KnowsAll (view : View) (count : ℕ) : Type 0 where
 
 pub record Knows (view : View) (count : ℕ) : Type 0 where
   pub right : IsRight view.n count view
-  pub bound : count ≤ view.n + most_size * view.most
+  pub bound : count ≤ view.n + most_block * view.most
   pub apart : (number : ℕ) → claimed (covering number) view ≤ 1
   pub pieces_apart : (number : ℕ) → sum_by (covering number) view.held ≤ 1
   pub sizes : claimed (λ addition. addition.size) view ≤ count

@@ -1,7 +1,8 @@
 //! The counter: one word, to which workers add.
 ghost use Rattle.std.specs.Prelude.{ℕ, ◌≡◌, ◌≤◌, ◌<◌, ◌↔◌, ◌∷◌, [], map, IfOk, IfSome, IfNone, IsTrue};
 ghost use Rattle.qtc_base.specs.Ranges.{Tiles};
-ghost use Rattle.qtc_claim.specs.Claims.{IsWithinLimits, most_size, after_load, addition_at, clipped};
+ghost use Rattle.qtc_claim.specs.Claims.{IsWithinLimits, after_load, addition_at, clipped};
+ghost use Rattle.qtc_base.specs.Limits.{most_block};
 ghost use Rattle.qtc_claim.specs.Rule.{gathered};
 ghost use Rattle.qtc_claim.specs.Counter.{IsNew, ClaimsPiece, ClaimsNone, Sees, HasAll, IsEnd, KnowsClaims};
 ghost use Rattle.qtc_claim.specs.Inside.{IsWorker, worker_of, HasLoaded, HasAdded, of_seat, tally_of, HasRead};
@@ -65,7 +66,7 @@ impl Counter {
     /// on. It takes no memory, and waits for nobody.
     pub fn claim(&self, seat: &mut Seat, size: u32) -> Option<Piece>
         requires of { seat.old.of ≡ self.now }
-        requires size { (1 ≤ size) × (size ≤ most_size) }
+        requires size { (1 ≤ size) × (size ≤ most_block) }
         ensures of { seat.new.of ≡ self.now }
         ensures piece { IfSome result (ClaimsPiece self.now size seat.old.worker seat.new.worker) }
         ensures none { IfNone result (ClaimsNone self.now.n size seat.old.worker seat.new.worker) }
@@ -121,7 +122,7 @@ impl Counter {
     // Adds to the counter, for a worker that saw less than `n`.
     fn add(&self, seat: &mut table::Seat<(), View>, size: u64) -> u64
         requires worker { IsWorker self.now (worker_of seat.old.me.0) [] seat.old }
-        requires size { size ≤ most_size }
+        requires size { size ≤ most_block }
         requires left { (worker_of seat.old.me.0).seen < self.now.n }
         ensures { HasAdded self.now (addition_at result size) seat.old seat.new }
     {
@@ -132,7 +133,7 @@ impl Counter {
     fn cut(&self, seat: &mut table::Seat<(), View>, begin: u64, size: u32) -> Piece
         requires worker { IsWorker self.now (worker_of seat.old.me.0) (addition_at begin size ∷ []) seat.old }
         requires below { begin < self.now.n }
-        requires size { size ≤ most_size }
+        requires size { size ≤ most_block }
         ensures worker { IsWorker self.now (worker_of seat.old.me.0) [] seat.new }
         ensures piece { result ≡ record { of = self.now; addition = addition_at begin size } }
     {

@@ -17,8 +17,6 @@ mod piece;
 mod rule;
 mod seat;
 mod tally;
-#[cfg(test)]
-mod tests;
 
 pub use counter::Counter;
 pub use laws::calls_come_together;

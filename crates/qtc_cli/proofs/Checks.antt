@@ -3,22 +3,24 @@ use Rattle.std.proofs.Common.{◌≡◌, ◌≢◌, ℕ, ◌≤◌, List, Some, 
 use Rattle.qtc_outside.specs.Source.{Source, IsCalm}
 use Rattle.qtc_outside.specs.Intake.{Intake}
 use Rattle.qtc_outside.specs.Loading.{Loads, FailsToLoad, IsTooLong}
-use Rattle.qtc_job.specs.declared.jobs.BadJob.{BadJob}
-use Rattle.qtc_job.specs.declared.jobs.JobFile.{JobFile}
+use Rattle.qtc_job.specs.declared.faults.BadJob.{BadJob}
+use Rattle.qtc_job_file.specs.declared.jobs.JobFile.{JobFile}
 use Rattle.qtc_job.specs.Grammar.{Reads}
-use Rattle.qtc_job.specs.Limits.{most_text as most_job_file}
+use Rattle.qtc_base.specs.Limits.{most_job_file}
 use Rattle.qtc_job.specs.Lines.{lines_of}
 use Rattle.qtc_cli.specs.Answered.{IsBadJob, HasNoFaults}
-use Rattle.qtc_cli.specs.Check.{IsCheck, ChecksFile, FormsCheck, CheckEnds}
+use Rattle.qtc_cli.specs.Check.{IsCheck, ChecksFile, FormsCheck, CheckEnds, FileStops}
 use Rattle.qtc_cli.specs.Endings.{IsRefused, WritesAll, WritesFront}
 use Rattle.qtc_cli.specs.Forms.{form, check}
-use Rattle.qtc_cli.specs.Loads.{LoadsFile, LoadsBad, FileStops}
-use Rattle.qtc_cli.specs.Refusals.{status_of, line_of, Hears, SaysFor}
+use Rattle.qtc_load.specs.Loads.{LoadsFile, LoadsBad, FileNotRead}
+use Rattle.qtc_cli.specs.Refusals.{file_refusal, status_of, line_of, Hears, SaysFor}
 use Rattle.qtc_cli.specs.Seen.{Seen, seen}
+use Rattle.qtc_load.specs.declared.faults.FileFault.{FileFault}
+use Rattle.qtc_load.specs.declared.faults.FileFault.TheVariants.{Bad as BadFile, Read as FileRead, TooLong as FileTooLong, Memory as FileMemory}
 use Rattle.qtc_cli.specs.declared.refusals.Refusal.{Refusal}
 use Rattle.qtc_cli.specs.declared.refusals.Refusal.TheVariants.{Usage, Bad, ReadFault, WriteFault, Memory, TooLarge, NotYet}
 use Rattle.qtc_cli.proofs.Ends.{two-at-least, keeps-refused, keeps-done, keeps-cut}
-use Rattle.qtc_cli.proofs.Texts.{calm-same}
+use Rattle.qtc_load.proofs.Texts.{calm-same}
 
 -- ---- a file that can be read is not refused
 
@@ -38,6 +40,13 @@ file-same old new name text file other held reads l =
 
 pub not-too-long : (limit : ℕ) (old new : Source) (name text : List ℕ) → old.held name ≡ Some text → length text ≤ limit → IsTooLong limit old name new → ⊥
 not-too-long limit old new name text held short l = let long = rw held at l.told in omega arith
+
+-- a job file that was not read is refused for the same cause
+pub file-stops : (name : List ℕ) (old new : Source) (fault : FileFault) → FileNotRead name old fault new → FileStops name old (file_refusal fault) new
+file-stops name old new (BadFile bad) stops = stops
+file-stops name old new FileRead stops = stops
+file-stops name old new FileTooLong stops = stops
+file-stops name old new FileMemory stops = stops
 
 -- ---- what was refused is what was told
 

@@ -11,15 +11,15 @@ use Rattle.qtc_base.specs.Items.{PassesLimit}
 use Rattle.qtc_outside.specs.Source.{Source, IsCalm}
 use Rattle.qtc_outside.specs.Intake.{Intake}
 use Rattle.qtc_outside.specs.declared.loading.LoadFault.TheVariants.{TooLong}
-use Rattle.qtc_job.specs.declared.jobs.JobFile.{JobFile}
-use Rattle.qtc_job.specs.Limits.{most_text as most_job_file}
-use Rattle.qtc_job.specs.declared.jobs.Job.{Job}
+use Rattle.qtc_job_file.specs.declared.jobs.JobFile.{JobFile}
+use Rattle.qtc_base.specs.Limits.{most_job_file, most_text, most_texts}
+use Rattle.qtc_job_file.specs.declared.jobs.Job.{Job}
 use Rattle.qtc_kernel.specs.Workload.{bad_indexes}
-use Rattle.qtc_run.specs.Loaded.{most_text}
 use Rattle.qtc_run.specs.Laws.{GoodJobsFinish}
 use Rattle.qtc_run.specs.Reports.{AreReports, has_failed, is_unfinished}
 use Rattle.qtc_run.specs.Runnable.{are_runnable}
-use Rattle.qtc_run.specs.Sources.{Texts, items_of, items_of_all, work_of}
+use Rattle.qtc_run.specs.Sources.{items_of, items_of_all, work_of}
+use Rattle.qtc_job_file.specs.Texts.{Texts}
 use Rattle.qtc_run.specs.Sums.{items_up_to, RefusesRun as JobsStop}
 use Rattle.qtc_run.specs.declared.reports.JobReport.{JobReport}
 use Rattle.qtc_run.specs.declared.reports.Report.{Report}
@@ -30,15 +30,17 @@ use Rattle.qtc_cli.specs.Answered.{IsDone, IsBadJob, HasNoFaults}
 use Rattle.qtc_cli.specs.Check.{CheckEnds}
 use Rattle.qtc_cli.specs.Endings.{IsRefused, WritesAll, WritesFront}
 use Rattle.qtc_cli.specs.Forms.{form, run, check}
-use Rattle.qtc_cli.specs.Loads.{most_texts, LoadsFile, LoadsTexts, texts_named, name_of, bytes_of}
-use Rattle.qtc_cli.specs.Refusals.{run_refusal, status_of, line_of, Hears, SaysFor}
+use Rattle.qtc_load.specs.Loads.{FileNotRead, LoadsFile, LoadsTexts, texts_named, name_of, bytes_of}
+use Rattle.qtc_load.specs.declared.faults.FileFault.{FileFault}
+use Rattle.qtc_load.specs.declared.faults.FileFault.TheVariants.{Bad as BadFile, Read as FileRead, TooLong as FileTooLong, Memory as FileMemory}
+use Rattle.qtc_cli.specs.Refusals.{file_refusal, run_refusal, status_of, line_of, Hears, SaysFor}
 use Rattle.qtc_cli.specs.Run.{AreGood, AsksFor, RunsFile, Ran, IsRunOf, IsTextRefused, IsReadFault, HasManyItems, IsTooLarge, IsNotYet, CanRun, RunsAsSaid, IsCall, RunStops, done_status, RunEnds}
 use Rattle.qtc_cli.specs.Seen.{Seen, seen}
 use Rattle.qtc_cli.specs.declared.refusals.Refusal.{Refusal}
 use Rattle.qtc_cli.specs.declared.refusals.Refusal.TheVariants.{Usage, Bad, ReadFault, WriteFault, Memory, TooLarge, NotYet}
 use Rattle.qtc_cli.proofs.Checks.{not-bad, file-same, not-too-long, check-call-of, usage-said}
 use Rattle.qtc_cli.proofs.Ends.{eight-at-most, not-done, keeps-refused, keeps-done, keeps-cut}
-use Rattle.qtc_cli.proofs.Texts.{calm-same, calm-then}
+use Rattle.qtc_load.proofs.Texts.{calm-same, calm-then}
 
 -- ---- texts that are held are those that are loaded
 
@@ -404,6 +406,13 @@ passes-more items more passes =
       | inl many ↦ inl (omega (arith, count))
       | inr large ↦ inr (omega (arith, size))
     ]
+
+-- a job file that was not read stops a run for the same cause
+pub run-file_stops : (name : List ℕ) (old new : Source) (fault : FileFault) → FileNotRead name old fault new → RunStops name old (file_refusal fault) new
+run-file_stops name old new (BadFile bad) stops = stops
+run-file_stops name old new FileRead stops = inl stops
+run-file_stops name old new FileTooLong stops = inl stops
+run-file_stops name old new FileMemory stops = stops
 
 pub run-stops : (name : List ℕ) (old between new : Source) (file : JobFile) (texts : Texts) (fault : RunFault) → LoadsFile name old file between → IsTrue (are_runnable file.jobs) → LoadsTexts (texts_named file) between texts new → JobsStop texts file.jobs fault → RunStops name old (run_refusal fault) new
 run-stops name old between new file texts (ItemsTooLarge job items bytes) loads ready texts_load stops =

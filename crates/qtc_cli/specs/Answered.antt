@@ -2,8 +2,8 @@
 use Rattle.std.specs.Prelude.{◌≡◌, ◌≢◌, ◌⊎◌, ℕ, List}
 use Rattle.qtc_outside.specs.Counts.{Rose}
 use Rattle.qtc_outside.specs.Source.{IsCalm}
-use Rattle.qtc_job.specs.declared.jobs.BadJob.{BadJob}
-use Rattle.qtc_cli.specs.Loads.{LoadsBad}
+use Rattle.qtc_job.specs.declared.faults.BadJob.{BadJob}
+use Rattle.qtc_load.specs.Loads.{LoadsBad}
 use Rattle.qtc_cli.specs.Refusals.{status_of, line_of, Hears}
 use Rattle.qtc_cli.specs.Seen.{Seen}
 use Rattle.qtc_cli.specs.declared.refusals.Refusal.{Refusal}

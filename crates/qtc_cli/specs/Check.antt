@@ -1,19 +1,20 @@
 -- What a call that checks a job file comes to. (Own.)
 use Rattle.std.specs.Prelude.{◌≡◌, ◌≢◌, ◌⊎◌, ◌↔◌, ◌≤◌, ℕ, List, length, Some}
-use Rattle.qtc_outside.specs.Source.{Source}
+use Rattle.qtc_outside.specs.Source.{Source, IsCalm}
 use Rattle.qtc_outside.specs.Intake.{Intake, Takes, IsCut}
 use Rattle.qtc_outside.specs.Loading.{FailsToLoad, IsTooLong}
-use Rattle.qtc_job.specs.declared.jobs.JobFile.{JobFile}
-use Rattle.qtc_job.specs.Canonical.{canonical}
+use Rattle.qtc_job_file.specs.declared.jobs.JobFile.{JobFile}
+use Rattle.qtc_job_file.specs.Canonical.{canonical}
 use Rattle.qtc_job.specs.Grammar.{Reads}
-use Rattle.qtc_job.specs.Limits.{most_text as most_job_file}
+use Rattle.qtc_base.specs.Limits.{most_job_file}
 use Rattle.qtc_job.specs.Lines.{lines_of}
 use Rattle.qtc_cli.specs.Answered.{KeepsOutside, IsBadJob, HasNoFaults}
 use Rattle.qtc_cli.specs.Endings.{IsRefused, Writes}
 use Rattle.qtc_cli.specs.Forms.{form, check}
-use Rattle.qtc_cli.specs.Loads.{LoadsFile, FileStops}
+use Rattle.qtc_load.specs.Loads.{LoadsBad, LoadsFile}
 use Rattle.qtc_cli.specs.Seen.{Seen}
 use Rattle.qtc_cli.specs.declared.refusals.Refusal.{Refusal}
+use Rattle.qtc_cli.specs.declared.refusals.Refusal.TheVariants.{Bad, Memory, ReadFault, TooLarge}
 
 -- the words are check JOB
 abbrev pub ChecksFile : Seen → List ℕ → Type 0
@@ -59,6 +60,14 @@ pub record IsCheck (call : Seen) : Type 0 where
   pub outside : KeepsOutside call
 
 -- ---- the steps of it
+
+-- the refusal that is told where the job file under a name was not read
+abbrev pub FileStops : List ℕ → Source → Refusal → Source → Type 0
+FileStops name old (Bad bad) new = LoadsBad name old bad new
+FileStops name old ReadFault new = FailsToLoad most_job_file old name new
+FileStops name old TooLarge new = IsTooLong most_job_file old name new
+FileStops name old Memory new = IsCalm old new
+FileStops name old _ new = ⊥
 
 -- the canonical text of what the job file reads as
 pub record FormsCheck (name : List ℕ) (old : Source) (text : List ℕ) (new : Source) : Type 0 where

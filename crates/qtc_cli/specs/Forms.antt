@@ -2,7 +2,7 @@
 use Rattle.std.specs.Prelude.{ℕ, ◌≤◌, Bool, ◌&&◌, List, [], ◌∷◌, Option, Some, None, codes, if◌then◌else◌}
 use Rattle.std.specs.Str.{bytes_eq}
 use Rattle.qtc_base.specs.Decimal.{number_of}
-use Rattle.qtc_job.specs.Limits.{most_workers}
+use Rattle.qtc_base.specs.Limits.{most_workers}
 use Rattle.qtc_job.specs.Literals.{is_numeral, is_within}
 
 -- run JOB, perhaps with a number of workers; check JOB

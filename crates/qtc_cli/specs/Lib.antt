@@ -4,8 +4,6 @@ pub mod Check
 pub mod Commands
 pub mod Endings
 pub mod Forms
-pub mod Loads
-pub mod LoadSteps
 pub mod Refusals
 pub mod Run
 pub mod Seen

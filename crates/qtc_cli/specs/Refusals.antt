@@ -4,9 +4,9 @@ use Rattle.qtc_base.specs.Decimal.{decimal_text}
 use Rattle.qtc_outside.specs.Intake.{Intake, Takes, IsCut}
 use Rattle.qtc_outside.specs.declared.loading.LoadFault.{LoadFault}
 use Rattle.qtc_outside.specs.declared.loading.LoadFault.TheVariants.{Read, TooLong, Memory as LoadMemory}
-use Rattle.qtc_job.specs.declared.jobs.BadJob.{BadJob}
-use Rattle.qtc_job.specs.declared.jobs.ParseFault.{ParseFault}
-use Rattle.qtc_job.specs.declared.jobs.ParseFault.TheVariants.{Bad as BadFile, Memory as ParseMemory}
+use Rattle.qtc_job.specs.declared.faults.BadJob.{BadJob}
+use Rattle.qtc_load.specs.declared.faults.FileFault.{FileFault}
+use Rattle.qtc_load.specs.declared.faults.FileFault.TheVariants.{Bad as BadFile, Read as FileRead, TooLong as FileTooLong, Memory as FileMemory}
 use Rattle.qtc_run.specs.declared.reports.RunFault.{RunFault}
 use Rattle.qtc_run.specs.declared.reports.RunFault.TheVariants.{TooLarge as ItemsTooLarge, Memory as RunMemory}
 use Rattle.qtc_cli.specs.declared.refusals.Refusal.{Refusal}
@@ -17,9 +17,11 @@ load_refusal Read = ReadFault
 load_refusal TooLong = TooLarge
 load_refusal LoadMemory = Memory
 
-abbrev pub parse_refusal : ParseFault → Refusal
-parse_refusal (BadFile bad) = Bad bad
-parse_refusal ParseMemory = Memory
+abbrev pub file_refusal : FileFault → Refusal
+file_refusal (BadFile bad) = Bad bad
+file_refusal FileRead = ReadFault
+file_refusal FileTooLong = TooLarge
+file_refusal FileMemory = Memory
 
 abbrev pub run_refusal : RunFault → Refusal
 run_refusal (ItemsTooLarge job items bytes) = TooLarge

@@ -6,22 +6,22 @@ use Rattle.qtc_outside.specs.Intake.{Intake, Takes, IsCut}
 use Rattle.qtc_outside.specs.Loading.{FailsToLoad, IsTooLong}
 use Rattle.qtc_outside.specs.declared.loading.LoadFault.{LoadFault}
 use Rattle.qtc_outside.specs.declared.loading.LoadFault.TheVariants.{Read, TooLong}
-use Rattle.qtc_job.specs.declared.jobs.Job.{Job}
-use Rattle.qtc_job.specs.declared.jobs.JobFile.{JobFile}
+use Rattle.qtc_job_file.specs.declared.jobs.Job.{Job}
+use Rattle.qtc_job_file.specs.declared.jobs.JobFile.{JobFile}
 use Rattle.qtc_job.specs.Grammar.{Reads}
-use Rattle.qtc_job.specs.Limits.{most_text as most_job_file}
+use Rattle.qtc_base.specs.Limits.{most_job_file, most_text, most_texts}
 use Rattle.qtc_job.specs.Lines.{lines_of}
 use Rattle.qtc_kernel.specs.Workload.{bad_indexes}
-use Rattle.qtc_run.specs.Loaded.{most_text}
 use Rattle.qtc_run.specs.Reports.{IsOutput, has_failed}
 use Rattle.qtc_run.specs.Runnable.{are_runnable}
-use Rattle.qtc_run.specs.Sources.{Texts, items_of_all, work_of}
+use Rattle.qtc_run.specs.Sources.{items_of_all, work_of}
+use Rattle.qtc_job_file.specs.Texts.{Texts}
 use Rattle.qtc_run.specs.declared.reports.Report.{Report}
 use Rattle.qtc_cli.specs.Answered.{IsDone, KeepsOutside, IsBadJob, HasNoFaults}
 use Rattle.qtc_cli.specs.Check.{IsCheck}
 use Rattle.qtc_cli.specs.Endings.{IsRefused, Writes}
 use Rattle.qtc_cli.specs.Forms.{Form, form, run, check}
-use Rattle.qtc_cli.specs.Loads.{most_texts, LoadsFile, LoadsBad, LoadsTexts, StopsAt, texts_named, name_of, bytes_of}
+use Rattle.qtc_load.specs.Loads.{LoadsFile, LoadsBad, LoadsTexts, StopsAt, texts_named, name_of, bytes_of}
 use Rattle.qtc_cli.specs.Seen.{Seen}
 use Rattle.qtc_cli.specs.declared.refusals.Refusal.{Refusal}
 use Rattle.qtc_cli.specs.declared.refusals.Refusal.TheVariants.{Bad, ReadFault, Memory, TooLarge, NotYet}

@@ -1,14 +1,13 @@
 ghost use Rattle.std.specs.Prelude.{map, string_bytes, IfOk, IfErr};
-ghost use Rattle.qtc_cli.specs.Check.{FormsCheck, CheckEnds, IsCheck};
-ghost use Rattle.qtc_cli.specs.Loads.{FileStops};
+ghost use Rattle.qtc_cli.specs.Check.{CheckEnds, FileStops, FormsCheck, IsCheck};
 ghost use Rattle.qtc_cli.specs.Seen.{seen};
 
 use crate::command_forms::{Task, command_of};
 use crate::endings::{refuse, write_text};
-use crate::loads::load_file;
 use crate::refusals::Refusal;
 use qtc_base::Bytes;
 use qtc_job::print;
+use qtc_load::load_file;
 use qtc_outside::{Sink, Texts};
 use std::alloc::Global;
 

@@ -12,7 +12,6 @@ use std::{env, io, mem};
 mod check;
 mod command_forms;
 mod endings;
-mod loads;
 mod refusals;
 mod run;
 

@@ -3,7 +3,8 @@ ghost use Rattle.qtc_cli.specs.Refusals.{line_of, Hears, SaysFor};
 ghost use Rattle.qtc_cli.specs.declared.refusals.Refusal.TheVariants.{Bad};
 
 use qtc_base::{Bytes, NoMemory, decimal};
-use qtc_job::{BadJob, ParseFault};
+use qtc_job::BadJob;
+use qtc_load::FileFault;
 use qtc_outside::{LoadFault, Sink, write_all};
 use qtc_run::RunFault;
 use std::alloc::Global;
@@ -55,16 +56,18 @@ impl From<LoadFault> for Refusal {
     }
 }
 
-impl From<ParseFault> for Refusal {
+impl From<FileFault> for Refusal {
     ghost use Rattle.std.specs.Prelude.{◌≡◌};
-    ghost use Rattle.qtc_cli.specs.Refusals.{parse_refusal};
+    ghost use Rattle.qtc_cli.specs.Refusals.{file_refusal};
 
-    ghost from_gives = { λ fault refusal. refusal ≡ parse_refusal fault };
+    ghost from_gives = { λ fault refusal. refusal ≡ file_refusal fault };
 
-    fn from(fault: ParseFault) -> Refusal {
+    fn from(fault: FileFault) -> Refusal {
         match fault {
-            ParseFault::Bad(bad) => Refusal::Bad(bad),
-            ParseFault::Memory => Refusal::Memory,
+            FileFault::Bad(bad) => Refusal::Bad(bad),
+            FileFault::Read => Refusal::ReadFault,
+            FileFault::TooLong => Refusal::TooLarge,
+            FileFault::Memory => Refusal::Memory,
         }
     }
 }

@@ -1,3 +1,4 @@
 pub mod Words
 pub mod JournalLemmas
 pub mod Replays
+pub mod Rows

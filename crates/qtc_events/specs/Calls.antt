@@ -132,11 +132,42 @@ has_effect s call =
 abbrev pub after_call : Standing → Call → Standing
 after_call s call = put_all true (put_all false s (row call).clears) (row call).sets
 
+abbrev pub is_report : Call → Bool
+is_report (Report begin kept total) = true
+is_report _ = false
+
+abbrev pub is_fail : Call → Bool
+is_fail (Fail index) = true
+is_fail _ = false
+
+-- the calls that set Canceled
+abbrev pub cancels : Call → Bool
+cancels Cancel = true
+cancels (Fail index) = true
+cancels _ = false
+
+-- the call that sets Finished
+abbrev pub finishes : Call → Bool
+finishes Finish = true
+finishes _ = false
+
+-- the calls of those who do the work; no other one reports, counts, fails or finishes
+abbrev pub is_makers : Call → Bool
+is_makers (Report begin kept total) = true
+is_makers (Account total) = true
+is_makers (Fail index) = true
+is_makers Finish = true
+is_makers _ = false
+
 -- what a threshold that was reached acts as
 abbrev pub acts_as : Reached → Option Call
 acts_as Nothing = None
 acts_as ReachedSuspend = Some Suspend
 acts_as ReachedCancel = Some Cancel
+
+abbrev pub cancels_by_threshold : Reached → Bool
+cancels_by_threshold ReachedCancel = true
+cancels_by_threshold _ = false
 
 abbrev pub after_acting : Standing → Option Call → Standing
 after_acting s None = s

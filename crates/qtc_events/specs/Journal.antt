@@ -1,10 +1,20 @@
 -- What a journal of effective calls tells. (Own.)
-use Rattle.std.specs.Prelude.{ℕ, Bool, true, ◌&&◌, Option, None, Some, List, [], ◌∷◌, ◌++◌, fold, sum_by, min, IsTrue, option_to_list}
+use Rattle.std.specs.Prelude.{◌≡◌, ℕ, Bool, true, ◌&&◌, Option, None, Some, List, [], ◌∷◌, ◌++◌, fold, sum_by, map, min, IsTrue, option_to_list}
 use Rattle.qtc_events.specs.Flags.{Standing, new_flags}
 use Rattle.qtc_events.specs.Calls.{row, has_effect, after_call, acts_as, after, posts_of_acting, most_accounted}
 use Rattle.qtc_events.specs.declared.calls.Call.{Call}
+use Rattle.qtc_events.specs.declared.calls.Call.TheVariants.{Start, Finish}
 use Rattle.qtc_events.specs.declared.entries.Entry.{Entry}
 use Rattle.qtc_events.specs.declared.events.Event.{Event}
+
+-- the calls of a journal, in order
+abbrev pub calls_in : List Entry → List Call
+calls_in journal = map (λ entry. entry.call) journal
+
+-- the calls begin with a start and end with a finish
+pub record IsOpenedAndFinished (calls : List Call) : Type 0 where
+  pub between : List Call
+  pub whole : calls ≡ Start ∷ between ++ Finish ∷ []
 
 -- the flags after one entry more
 abbrev pub after_entry : Standing → Entry → Standing

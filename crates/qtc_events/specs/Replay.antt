@@ -1,7 +1,6 @@
 -- What a watcher is told that connects late. (After QFutureWatcher; the order, and Ready where Canceled stands, is
 -- own.)
 use Rattle.std.specs.Prelude.{ℕ, Bool, if◌then◌else◌, List, [], ◌∷◌, ◌++◌, map}
-use Rattle.qtc_base.specs.declared.ranges.Range.{Range}
 use Rattle.qtc_events.specs.Flags.{Standing}
 use Rattle.qtc_events.specs.declared.events.Event.{Event}
 use Rattle.qtc_events.specs.declared.events.Event.TheVariants.{Started, Ready, Suspending, Suspended, Canceled, Finished}
@@ -13,9 +12,6 @@ told_where b event = if b then event ∷ [] else []
 -- Suspended where that stands, else Suspending where that does
 abbrev pub suspension_told : Standing → List Event
 suspension_told s = if s.suspended then Suspended ∷ [] else told_where s.suspending Suspending
-
-abbrev pub bounds_of : Range → ℕ × ℕ
-bounds_of range = (range.begin, range.end)
 
 -- one Ready for each of the stored batches
 abbrev pub ranges_told : List (ℕ × ℕ) → List Event

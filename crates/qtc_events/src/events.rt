@@ -1,6 +1,7 @@
 ghost use Rattle.std.specs.Prelude.{◌≡◌, [], ◌∷◌, ◌++◌, map, OnOk, OnErr, IfOk, take, length};
 ghost use Rattle.qtc_events.specs.Flags.{flags_in};
-ghost use Rattle.qtc_events.specs.Replay.{bounds_of, replayed, told_where};
+ghost use Rattle.qtc_events.specs.Replay.{replayed, told_where};
+ghost use Rattle.qtc_base.specs.Ranges.{bounds_of};
 ghost use Rattle.qtc_events.specs.declared.events.Event.TheVariants.{Ready};
 ghost use Rattle.qtc_events.specs.Text.{event_line};
 

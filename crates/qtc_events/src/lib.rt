@@ -8,8 +8,6 @@ mod events;
 mod flags;
 mod journals;
 mod laws;
-#[cfg(test)]
-mod tests;
 mod thresholds;
 
 pub use calls::Call;

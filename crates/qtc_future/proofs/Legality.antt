@@ -12,7 +12,8 @@ use Rattle.qtc_events.specs.declared.calls.Call.TheVariants.{Start, Report, Acco
 use Rattle.qtc_events.specs.declared.entries.Entry.{Entry}
 use Rattle.qtc_events.specs.declared.entries.Reached.{Reached}
 use Rattle.qtc_events.specs.declared.entries.Reached.TheVariants.{Nothing}
-use Rattle.qtc_store.specs.Batches.{end_of, least_covered, most_end, IsWhole}
+use Rattle.qtc_store.specs.Batches.{end_of, least_covered, IsWhole}
+use Rattle.qtc_base.specs.Limits.{most_end}
 use Rattle.qtc_store.specs.Stored.{batch_with, goes_at, NothingRefuses}
 use Rattle.qtc_store.specs.declared.batch.Batch.{Batch}
 use Rattle.qtc_future.specs.Future.{Future, Logged, batch_of, entries_of, flags_of, journal_of, results_of}

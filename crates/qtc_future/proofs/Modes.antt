@@ -3,7 +3,8 @@ use Rattle.std.proofs.Common.{◌≡◌, ℕ, Bool, true, false, nat_lt, nat_eq,
 use Rattle.qtc_events.specs.Calls.{has_effect}
 use Rattle.qtc_events.specs.declared.calls.Call.{Call}
 use Rattle.qtc_events.specs.declared.calls.Call.TheVariants.{Start as CallStart, Account as CallAccount, Suspend, Resume, ReportSuspended as CallReportSuspended, Cancel as CallCancel, Fail as CallFail, Finish as CallFinish}
-use Rattle.qtc_store.specs.Batches.{end_of, least_covered, most_end}
+use Rattle.qtc_store.specs.Batches.{end_of, least_covered}
+use Rattle.qtc_base.specs.Limits.{most_end}
 use Rattle.qtc_store.specs.Stored.{batch_with, goes_at}
 use Rattle.qtc_store.specs.declared.batch.Batch.{Batch}
 use Rattle.qtc_future.specs.Future.{Future, results_of, flags_of}

@@ -1,5 +1,5 @@
 -- A report that the store took.
-use Rattle.std.proofs.Common.{◌≡◌, ℕ, zero, suc, ◌+◌, ◌<◌, Bool, true, false, ◌||◌, ◌&&◌, nat_lt, nat_le, nat_eq, List, [], ◌∷◌, ◌++◌, length, Option, None, Some, Result, IfOk, All, IsTrue, inl, inr, refl, ap, sym, ◌∙◌, subst, arith}
+use Rattle.std.proofs.Common.{◌≡◌, ℕ, zero, suc, ◌+◌, ◌<◌, Bool, true, false, ◌||◌, ◌&&◌, nat_lt, nat_le, nat_eq, List, [], ◌∷◌, ◌++◌, length, Option, None, Some, unwrap_or, if◌then◌else◌, Result, Ok, Err, IfOk, IsOk, All, IsTrue, inl, inr, refl, ap, sym, ◌∙◌, subst, arith}
 use Rattle.std.specs.Option.{option_or}
 use Rattle.std.specs.List.{list_any, find, range_with_len}
 use Rattle.std.proofs.lemmas.Bool.{cases_lt}
@@ -15,7 +15,8 @@ use Rattle.qtc_events.specs.declared.calls.Call.TheVariants.{Report}
 use Rattle.qtc_events.specs.declared.entries.Entry.{Entry}
 use Rattle.qtc_events.specs.declared.entries.Reached.{Reached}
 use Rattle.qtc_events.specs.declared.thresholds.Thresholds.{Thresholds}
-use Rattle.qtc_store.specs.Batches.{covers, is_covered, least_covered, placed, end_of, most_end, IsWhole}
+use Rattle.qtc_store.specs.Batches.{covers, is_covered, least_covered, placed, end_of, IsWhole}
+use Rattle.qtc_base.specs.Limits.{most_end}
 use Rattle.qtc_store.specs.Stored.{Stored, refusal, refusal_of, count_of, with_batch, NothingRefuses}
 use Rattle.qtc_store.specs.Adds.{store_of}
 use Rattle.qtc_store.specs.declared.batch.Added.{Added}
@@ -24,10 +25,10 @@ use Rattle.qtc_store.specs.declared.batch.AddFault.TheVariants.{Taken as FaultTa
 use Rattle.qtc_store.specs.declared.batch.Batch.{Batch}
 use Rattle.qtc_future.specs.Booked.{Booked, HasRoom}
 use Rattle.qtc_future.specs.Future.{Future, Logged, batch_of, batches_in, reports_of, results_of, flags_of, failure_in}
-use Rattle.qtc_future.specs.Steps.{Stepped, Accepted, Taken, PastEnd, accepted, told_by, with_report, judged, logged_by, reached_by, report_of, with_call}
+use Rattle.qtc_future.specs.Steps.{Stepped, Accepted, Taken, PastEnd, accepted, stays, told_by, with_report, judged, logged_by, reached_by, report_of, with_call}
 use Rattle.qtc_future.specs.Legal.{IsAcceptable, IsEffective, AreEffective}
 use Rattle.qtc_future.specs.Core.{values_in, values_read, call_read, calls_read, seen, IsKept}
-use Rattle.qtc_future.specs.Answering.{IsStep, refused_by}
+use Rattle.qtc_future.specs.Answering.{IsStep, IsTry, is_idle, lacking_at, refused_by}
 use Rattle.qtc_future.specs.declared.replies.Failure.{Failure}
 use Rattle.qtc_future.specs.declared.replies.Reply.{Reply}
 use Rattle.qtc_base.specs.declared.memory.NoMemory.{NoMemory}
@@ -224,3 +225,46 @@ refused_case future new caller b least Memory taken past same = tt
 pub refused_step : {V : Type 0} (future new : Future V) (caller : ℕ) (b : Batch V) (least : Option ℕ) (fault : AddFault) (result : Result Reply NoMemory) → result ≡ refused_by fault → ((i : ℕ) → fault ≡ FaultTaken i → least ≡ Some i) → (fault ≡ FaultPastEnd → (least ≡ None) × (most_end < end_of b)) → new ≡ future → IfOk result (λ reply. IsStep (judged future caller b least) new (told_by reply))
 refused_step future new caller b least fault result is taken past same =
     subst (λ r. IfOk r (λ reply. IsStep (judged future caller b least) new (told_by reply))) (sym is) (refused_case future new caller b least fault taken past same)
+
+-- ---- a refusal comes with memory or without
+
+past_chosen : {V : Type 0} (future : Future V) (caller : ℕ) (b : Batch V) (past : Bool) → IsTrue (is_idle (if past then (stays future PastEnd) else (accepted future caller b)).told) → past ≡ true
+past_chosen future caller b true idle = refl
+past_chosen future caller b false idle = absurd (cc)
+
+sure_case : {V : Type 0} (future : Future V) (caller : ℕ) (b : Batch V) (least : Option ℕ) (fault : AddFault) → ((i : ℕ) → least ≡ Some i → fault ≡ FaultTaken i) → (least ≡ None → most_end < end_of b → fault ≡ FaultPastEnd)
+    → IsTrue (is_idle (judged future caller b least).told) → IsOk (refused_by fault)
+sure_case future caller b (Some i) fault taken past idle = subst (λ f. IsOk (refused_by f)) (sym (taken i refl)) refl
+sure_case future caller b None fault taken past idle =
+    let is = past_chosen future caller b (nat_lt most_end (end_of b)) idle in
+    let end : most_end < end_of b = grind (arith, nat_tests) in
+    subst (λ f. IsOk (refused_by f)) (sym (past refl end)) refl
+
+abbrev fault_of : {A : Type 0} → AddFault → Result A AddFault → AddFault
+fault_of other (Ok value) = other
+fault_of other (Err fault) = fault
+
+-- of a batch that the store was asked to take
+pub refused_sure : {V A : Type 0} (future : Future V) (caller : ℕ) (b : Batch V) (least : Option ℕ) (fault : AddFault) (asked : Result A AddFault) (result : Result Reply NoMemory) → asked ≡ Err fault → result ≡ refused_by fault
+    → ((i : ℕ) → least ≡ Some i → asked ≡ Err (FaultTaken i)) → (least ≡ None → most_end < end_of b → asked ≡ Err FaultPastEnd)
+    → IsTrue (is_idle (judged future caller b least).told) → IsOk result
+refused_sure future caller b least fault asked result asked_is is taken past idle =
+    let fault_is : fault ≡ fault_of fault asked = sym (ap (fault_of fault) asked_is) in
+    subst IsOk (sym is)
+    (sure_case future caller b least fault (λ i e. fault_is ∙ ap (fault_of fault) (taken i e)) (λ e end. fault_is ∙ ap (fault_of fault) (past e end)) idle)
+
+lacking_case : {V : Type 0} (future : Future V) (caller : ℕ) (b : Batch V) (least : Option ℕ) → IsTry future (judged future caller b least) told_by future (refused_by (unwrap_or (refusal least (end_of b)) Memory))
+lacking_case future caller b (Some i) = record { ok = record { future = refl; answer = refl }; err = tt; sure = λ idle. refl }
+lacking_case future caller b None = by (nat_lt most_end (end_of b))
+  where
+    by : (past : Bool) → IsTry future (if past then (stays future PastEnd) else (accepted future caller b)) told_by future (refused_by (unwrap_or (if past then (Some FaultPastEnd) else None) Memory))
+    by true = record { ok = record { future = refl; answer = refl }; err = tt; sure = λ idle. refl }
+    by false = record { ok = tt; err = refl; sure = λ idle. absurd (cc) }
+
+-- of a batch that the store wasn't asked to take
+pub lacking_try : {V : Type 0} (future new : Future V) (caller : ℕ) (b : Batch V) (result : Result Reply NoMemory) → result ≡ lacking_at (results_of future) b.begin b.total → new ≡ future
+    → IsTry future (judged future caller b (least_covered (results_of future).batches b.begin b.total)) told_by new result
+lacking_try future new caller b result is same =
+    let least = least_covered (results_of future).batches b.begin b.total in
+    subst (λ n. IsTry future (judged future caller b least) told_by n result) (sym same)
+    (subst (IsTry future (judged future caller b least) told_by future) (sym is) (lacking_case future caller b least))

@@ -5,7 +5,8 @@ use Rattle.qtc_events.specs.Calls.{has_effect, add_accounted, reached_of}
 use Rattle.qtc_events.specs.declared.calls.Call.{Call}
 use Rattle.qtc_events.specs.declared.calls.Call.TheVariants.{Start, Report, Account, Suspend, Resume, ReportSuspended, Cancel, Fail, Finish}
 use Rattle.qtc_events.specs.declared.entries.Reached.{Reached}
-use Rattle.qtc_store.specs.Batches.{end_of, least_covered, most_end}
+use Rattle.qtc_store.specs.Batches.{end_of, least_covered}
+use Rattle.qtc_base.specs.Limits.{most_end}
 use Rattle.qtc_store.specs.Stored.{batch_with, count_of, goes_at}
 use Rattle.qtc_store.specs.declared.batch.Added.{Added}
 use Rattle.qtc_store.specs.declared.batch.Batch.{Batch}

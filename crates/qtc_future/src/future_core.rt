@@ -1,5 +1,5 @@
 ghost use Rattle.std.specs.Prelude.{◌≡◌, ◌∷◌, [], IfOk};
-ghost use Rattle.qtc_future.specs.Answering.{refused_by};
+ghost use Rattle.qtc_future.specs.Answering.{lacking_at, refused_by};
 
 use crate::book::Book;
 use crate::{Failure, Outcome, Reply};
@@ -36,7 +36,8 @@ impl<V> Model for FutureCore<V> {
 impl<V> FutureCore<V> {
     ghost use Rattle.std.specs.Prelude.{◌≡◌, None, IfOk, IsSome, IsTrue, option_copied, slice_get, map};
     ghost use Rattle.qtc_events.specs.Flags.{flags_in};
-    ghost use Rattle.qtc_store.specs.Stored.{value_at, count_of, ranges_of, bounds_of, AreRangesOf};
+    ghost use Rattle.qtc_store.specs.Stored.{value_at, count_of, ranges_of, AreRangesOf};
+    ghost use Rattle.qtc_base.specs.Ranges.{bounds_of};
     ghost use Rattle.qtc_future.specs.Future.{new_future, journal_of, flags_of, accounted_of, results_of, events_of};
     ghost use Rattle.qtc_future.specs.Steps.{has_ended, reached_by};
     ghost use Rattle.qtc_future.specs.Legal.{IsLegal};
@@ -298,12 +299,12 @@ impl<V> FutureCore<V> {
 }
 
 impl<V: Drop> FutureCore<V> {
-    ghost use Rattle.std.specs.Prelude.{◌≡◌, ◌≤◌, true, false, OnErr, IfOk, IsSome, length};
+    ghost use Rattle.std.specs.Prelude.{◌≡◌, ◌≤◌, true, false, OnErr, IfOk, IsOk, IsSome, IsTrue, length};
     ghost use Rattle.qtc_store.specs.Batches.{least_covered};
     ghost use Rattle.qtc_store.specs.Stored.{batch_with};
     ghost use Rattle.qtc_future.specs.Future.{results_of};
     ghost use Rattle.qtc_future.specs.Steps.{has_ended, judged, step, told_by};
-    ghost use Rattle.qtc_future.specs.Answering.{IsStep, IsTry};
+    ghost use Rattle.qtc_future.specs.Answering.{IsStep, IsTry, is_idle};
     ghost use Rattle.qtc_future.specs.declared.requests.Request.TheVariants as request;
 
     /// Stores results for the indexes from `begin` to `begin + total`. Err is want of memory.
@@ -339,8 +340,17 @@ impl<V: Drop> FutureCore<V> {
             return Ok(Reply::Dropped(flags));
         }
         let begin = index.unwrap_or(self.store.insert_index());
-        let values = single(self.book.allocator(), value)?;
-        self.offer(caller, begin, values, 1)
+        match single(self.book.allocator(), value) {
+            Ok(values) => self.offer(caller, begin, values, 1),
+            Err(NoMemory) => self.lacking(begin, 1),
+        }
+    }
+
+    /// What a batch is answered for which memory lacks: why the store refuses it, where it does. Else Err.
+    fn lacking(&self, begin: u32, total: u32) -> Result<Reply, NoMemory>
+        ensures { result ≡ lacking_at (results_of self.now) begin total }
+    {
+        refused(self.store.refusal(begin, total).unwrap_or(AddFault::Memory))
     }
 
     /// Offers a batch to the store. Err is want of memory.
@@ -358,6 +368,9 @@ impl<V: Drop> FutureCore<V> {
             let covered = least_covered (results_of self.old).batches begin total in
             IfOk result (λ reply. IsStep (judged self.old caller batch covered) self.new (told_by reply)) }
         ensures err { OnErr result (self.new ≡ self.old) }
+        ensures sure { let batch = batch_with begin values total in
+            let covered = least_covered (results_of self.old).batches begin total in
+            IsTrue (is_idle (judged self.old caller batch covered).told) → IsOk result }
     {
         let call = Call::Report {
             begin,
@@ -365,7 +378,9 @@ impl<V: Drop> FutureCore<V> {
             total,
         };
         let reached = self.reached(&call);
-        self.book.reserve()?;
+        let Ok(()) = self.book.reserve() else {
+            return self.lacking(begin, total);
+        };
         match self.store.add_batch(begin, values, total) {
             Ok(added) => {
                 if total > 0 {

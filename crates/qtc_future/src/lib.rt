@@ -9,8 +9,6 @@ mod log;
 mod replies;
 mod requests;
 mod runs;
-#[cfg(test)]
-mod tests;
 
 pub use future_core::FutureCore;
 pub use laws::{

@@ -9,13 +9,13 @@ use Rattle.std.proofs.lemmas.List.{map-append, get_or_append_left, get_or_at}
 use Rattle.qtc_ops.specs.declared.operations.ItemOp.{ItemOp}
 use Rattle.qtc_ops.specs.declared.operations.ItemOp.TheVariants as item
 use Rattle.qtc_ops.specs.declared.fold_ops.FoldOp.{FoldOp}
-use Rattle.qtc_job.specs.declared.jobs.Job.{Job}
-use Rattle.qtc_job.specs.Canonical.{job_lines, names_of, own_lines}
+use Rattle.qtc_job_file.specs.declared.jobs.Job.{Job}
+use Rattle.qtc_job_file.specs.Canonical.{job_lines, names_of, own_lines}
 use Rattle.qtc_job.specs.Codes.{codes_on, form_codes, job_codes, names_above, own_above, own_below}
 use Rattle.qtc_job.specs.Drafts.{IsDraft, one_of}
 use Rattle.qtc_job.specs.Forms.{job_form, name}
-use Rattle.qtc_job.specs.Keywords.{keyword_of}
-use Rattle.qtc_job.specs.Lawful.{IsJob}
+use Rattle.qtc_job_file.specs.Keywords.{keyword_of}
+use Rattle.qtc_job_file.specs.Lawful.{IsJob}
 use Rattle.qtc_job.specs.Lines.{Line, too_long, silent, unknown, workers, job, says, is_job, line_of_words}
 use Rattle.qtc_job.specs.Meaning.{job_of, jobs_of, place_of}
 use Rattle.qtc_job.proofs.JobLemmas.{good, job-is}

@@ -10,15 +10,15 @@ use Rattle.qtc_ops.specs.declared.fold_ops.FoldOp.{FoldOp}
 use Rattle.qtc_ops.specs.declared.list_ops.ListOp.{ListOp}
 use Rattle.qtc_ops.specs.declared.list_ops.ListOp.TheVariants as listed
 use Rattle.qtc_job.specs.declared.drafts.Draft.{Draft}
-use Rattle.qtc_job.specs.declared.jobs.ChainOp.{ChainOp}
-use Rattle.qtc_job.specs.declared.jobs.ChainOp.TheVariants as chain
-use Rattle.qtc_job.specs.declared.jobs.Input.{Input}
-use Rattle.qtc_job.specs.declared.jobs.Job.{Job}
-use Rattle.qtc_job.specs.declared.keywords.Keyword.TheVariants as word
+use Rattle.qtc_job_file.specs.declared.jobs.ChainOp.{ChainOp}
+use Rattle.qtc_job_file.specs.declared.jobs.ChainOp.TheVariants as chain
+use Rattle.qtc_job_file.specs.declared.jobs.Input.{Input}
+use Rattle.qtc_job_file.specs.declared.jobs.Job.{Job}
+use Rattle.qtc_job_file.specs.declared.keywords.Keyword.TheVariants as word
 use Rattle.qtc_job.specs.declared.statements.Statement.TheVariants as statement
-use Rattle.qtc_job.specs.Canonical.{after_lines, chain_words, fold_lines, fold_words, order_words, input_words, op_words, own_lines, priority_text, watch_lines}
-use Rattle.qtc_job.specs.Keywords.{keyword_of, spelling}
-use Rattle.qtc_job.specs.Lawful.{AreBlocks, IsFold, IsJob, IsPriority, IsStep}
+use Rattle.qtc_job_file.specs.Canonical.{after_lines, chain_words, fold_lines, fold_words, order_words, input_words, op_words, own_lines, priority_text, watch_lines}
+use Rattle.qtc_job_file.specs.Keywords.{keyword_of, spelling}
+use Rattle.qtc_job_file.specs.Lawful.{AreBlocks, IsFold, IsJob, IsPriority, IsStep}
 use Rattle.qtc_job.specs.Lines.{says, line_of_words}
 use Rattle.qtc_job.specs.Meaning.{fold_meant, order_meant, number_at, word_at}
 use Rattle.qtc_job.specs.Literals.{priority_of}

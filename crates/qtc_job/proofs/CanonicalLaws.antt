@@ -2,14 +2,14 @@
 use Rattle.std.proofs.Common.{◌≡◌, ℕ, suc, ◌+◌, ◌<◌, ◌≤◌, List, [], ◌∷◌, length, get_or, map, refl, sym, subst, ◌∙◌, arith}
 use Rattle.std.proofs.lemmas.List.{length-map}
 use Rattle.qtc_base.specs.Decimal.{decimal_text, number_of}
-use Rattle.qtc_job.specs.declared.jobs.Job.{Job}
-use Rattle.qtc_job.specs.declared.jobs.JobFile.{JobFile}
-use Rattle.qtc_job.specs.Canonical.{canonical, file_lines, names_of}
+use Rattle.qtc_job_file.specs.declared.jobs.Job.{Job}
+use Rattle.qtc_job_file.specs.declared.jobs.JobFile.{JobFile}
+use Rattle.qtc_job_file.specs.Canonical.{canonical, file_lines, names_of}
 use Rattle.qtc_job.specs.Codes.{form_codes}
 use Rattle.qtc_job.specs.Forms.{number, workers_form}
 use Rattle.qtc_job.specs.Grammar.{Reads}
-use Rattle.qtc_job.specs.Keywords.{keyword_of}
-use Rattle.qtc_job.specs.Lawful.{IsJob, Lawful}
+use Rattle.qtc_job_file.specs.Keywords.{keyword_of}
+use Rattle.qtc_job_file.specs.Lawful.{IsJob, Lawful}
 use Rattle.qtc_job.specs.Lines.{workers, line_of_words, lines_of}
 use Rattle.qtc_job.specs.Meaning.{file_of}
 use Rattle.qtc_job.proofs.CutLemmas.{lines-whole}

@@ -13,14 +13,14 @@ use Rattle.qtc_ops.specs.declared.fold_ops.FoldOp.{FoldOp}
 use Rattle.qtc_ops.specs.declared.fold_ops.FoldOp.TheVariants as folded
 use Rattle.qtc_ops.specs.declared.list_ops.ListOp.{ListOp}
 use Rattle.qtc_ops.specs.declared.list_ops.ListOp.TheVariants as listed
-use Rattle.qtc_job.specs.declared.jobs.Input.{Input}
-use Rattle.qtc_job.specs.declared.jobs.Input.TheVariants as input
-use Rattle.qtc_job.specs.declared.keywords.Keyword.TheVariants as word
-use Rattle.qtc_job.specs.Canonical.{written, priority_text, name_at, input_words, map_words, predicate_words, fold_words, list_words}
+use Rattle.qtc_job_file.specs.declared.jobs.Input.{Input}
+use Rattle.qtc_job_file.specs.declared.jobs.Input.TheVariants as input
+use Rattle.qtc_job_file.specs.declared.keywords.Keyword.TheVariants as word
+use Rattle.qtc_job_file.specs.Canonical.{written, priority_text, name_at, input_words, map_words, predicate_words, fold_words, list_words}
 use Rattle.qtc_job.specs.Codes.{form_codes, word_codes}
 use Rattle.qtc_job.specs.Forms.{number, priority, literal, earlier, chosen, directive_form, predicate_form}
-use Rattle.qtc_job.specs.Keywords.{keyword_of, spelling}
-use Rattle.qtc_job.specs.Lawful.{IsText, IsInput, IsMap, IsPredicate, IsFold, AreBlocks, IsPriority, IsWithin}
+use Rattle.qtc_job_file.specs.Keywords.{keyword_of, spelling}
+use Rattle.qtc_job_file.specs.Lawful.{IsText, IsInput, IsMap, IsPredicate, IsFold, AreBlocks, IsPriority, IsWithin}
 use Rattle.qtc_job.specs.Literals.{text_of, priority_of}
 use Rattle.qtc_job.specs.Meaning.{by_word, place_of, input_meant, map_meant, predicate_kind, filter_meant, fold_meant, order_meant, list_meant}
 use Rattle.qtc_job.proofs.NumberLemmas.{number-read, number-numeral, number-within, priority-read}

@@ -8,18 +8,18 @@ use Rattle.qtc_ops.specs.declared.operations.ItemOp.{ItemOp}
 use Rattle.qtc_ops.specs.declared.operations.ItemOp.TheVariants as item
 use Rattle.qtc_ops.specs.declared.fold_ops.FoldOp.{FoldOp}
 use Rattle.qtc_job.specs.declared.drafts.Draft.{Draft}
-use Rattle.qtc_job.specs.declared.jobs.ChainOp.{ChainOp}
-use Rattle.qtc_job.specs.declared.jobs.Input.{Input}
-use Rattle.qtc_job.specs.declared.keywords.Keyword.{Keyword}
-use Rattle.qtc_job.specs.declared.keywords.Keyword.TheVariants as word
+use Rattle.qtc_job_file.specs.declared.jobs.ChainOp.{ChainOp}
+use Rattle.qtc_job_file.specs.declared.jobs.Input.{Input}
+use Rattle.qtc_job_file.specs.declared.keywords.Keyword.{Keyword}
+use Rattle.qtc_job_file.specs.declared.keywords.Keyword.TheVariants as word
 use Rattle.qtc_job.specs.declared.statements.Statement.{Statement}
 use Rattle.qtc_job.specs.declared.statements.Statement.TheVariants as statement
-use Rattle.qtc_job.specs.Canonical.{input_words, op_words}
+use Rattle.qtc_job_file.specs.Canonical.{input_words, op_words}
 use Rattle.qtc_job.specs.Codes.{earlier_names, form_codes, is_chain, is_in_job, is_single, own_above, stands}
 use Rattle.qtc_job.specs.Drafts.{IsDraft, IsOneOfJob, with_statement}
 use Rattle.qtc_job.specs.Forms.{directive_form}
-use Rattle.qtc_job.specs.Keywords.{keyword_of, spelling}
-use Rattle.qtc_job.specs.Lawful.{IsInput, IsOp}
+use Rattle.qtc_job_file.specs.Keywords.{keyword_of, spelling}
+use Rattle.qtc_job_file.specs.Lawful.{IsInput, IsOp}
 use Rattle.qtc_job.specs.Lines.{Line, says, is_job, line_of_words}
 use Rattle.qtc_job.specs.Meaning.{input_meant, map_meant, filter_meant}
 use Rattle.qtc_job.specs.Statements.{statement_of}

@@ -6,7 +6,7 @@ use Rattle.std.proofs.lemmas.List.Elements.{All-nil, All-cons, All-head, All-tai
 use Rattle.std.proofs.lemmas.List.Splits.{slice_split_none, slice_split_at}
 use Rattle.qtc_base.specs.Lines.{lines}
 use Rattle.qtc_base.specs.Words.{parts}
-use Rattle.qtc_job.specs.Canonical.{line_text, ended_line}
+use Rattle.qtc_job_file.specs.Canonical.{line_text, ended_line}
 use Rattle.qtc_job.specs.Lines.{line_of, line_of_words, lines_of}
 use Rattle.qtc_job.specs.Words.{gaps, words}
 

@@ -3,8 +3,8 @@ use Rattle.std.proofs.Common.{◌≡◌, ℕ, Bool, true, false, cond, List, [],
 use Rattle.std.specs.Prelude.{◌&&◌, ◌||◌}
 use Rattle.qtc_base.specs.Decimal.{number_of}
 use Rattle.qtc_job.specs.declared.drafts.Draft.{Draft}
-use Rattle.qtc_job.specs.declared.keywords.Keyword.{Keyword}
-use Rattle.qtc_job.specs.declared.keywords.Keyword.TheVariants as word
+use Rattle.qtc_job_file.specs.declared.keywords.Keyword.{Keyword}
+use Rattle.qtc_job_file.specs.declared.keywords.Keyword.TheVariants as word
 use Rattle.qtc_job.specs.Lines.{Line, silent, says, begins, args_in}
 use Rattle.qtc_job.specs.Literals.{priority_of}
 use Rattle.qtc_job.specs.Codes.{stands, is_single}

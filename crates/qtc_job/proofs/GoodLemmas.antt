@@ -1,7 +1,7 @@
 -- Lines of which none has a code.
 use Rattle.std.proofs.Common.{◌≡◌, ℕ, suc, ◌+◌, ◌-◌, ◌<◌, List, [], ◌∷◌, length, None, refl, ap, sym, subst, ◌∙◌, arith}
 use Rattle.std.specs.Prelude.{Contains}
-use Rattle.qtc_job.specs.declared.jobs.JobFile.{JobFile}
+use Rattle.qtc_job_file.specs.declared.jobs.JobFile.{JobFile}
 use Rattle.qtc_job.specs.Codes.{codes_on}
 use Rattle.qtc_job.specs.Grammar.{Reads, codes_at}
 use Rattle.qtc_job.specs.Lines.{Line}

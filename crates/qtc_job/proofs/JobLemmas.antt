@@ -4,9 +4,9 @@ use Rattle.std.specs.Prelude.{◌&&◌, ◌||◌, not, pos, ℤ}
 use Rattle.qtc_base.specs.Decimal.{number_of}
 use Rattle.qtc_ops.specs.declared.operations.ItemOp.{ItemOp}
 use Rattle.qtc_job.specs.declared.drafts.Draft.{Draft}
-use Rattle.qtc_job.specs.declared.jobs.Input.{Input}
-use Rattle.qtc_job.specs.declared.jobs.Job.{Job}
-use Rattle.qtc_job.specs.declared.keywords.Keyword.TheVariants as word
+use Rattle.qtc_job_file.specs.declared.jobs.Input.{Input}
+use Rattle.qtc_job_file.specs.declared.jobs.Job.{Job}
+use Rattle.qtc_job_file.specs.declared.keywords.Keyword.TheVariants as word
 use Rattle.qtc_job.specs.Answers.{least, IsLeast}
 use Rattle.qtc_job.specs.Codes.{where_, stands, job_codes, lacks_one_function, orders_no_fold}
 use Rattle.qtc_job.specs.Drafts.{IsDraft, one_of, kept}

@@ -2,8 +2,8 @@
 use Rattle.std.proofs.Common.{◌≡◌, ℕ, List, Some, refl}
 use Rattle.qtc_ops.specs.declared.operations.ItemOp.TheVariants.{Keep}
 use Rattle.std.specs.Prelude.{false}
-use Rattle.qtc_job.specs.declared.keywords.Keyword.{Keyword}
-use Rattle.qtc_job.specs.declared.keywords.Keyword.TheVariants as word
+use Rattle.qtc_job_file.specs.declared.keywords.Keyword.{Keyword}
+use Rattle.qtc_job_file.specs.declared.keywords.Keyword.TheVariants as word
 use Rattle.qtc_job.specs.Forms.{filter_form, predicate_form}
 use Rattle.qtc_job.specs.Meaning.{filter_kind, predicate_kind}
 

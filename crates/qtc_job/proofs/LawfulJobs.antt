@@ -7,21 +7,22 @@ use Rattle.std.proofs.lemmas.Int.{ints}
 use Rattle.std.proofs.lemmas.List.Elements.{All-nil, All-cons, All-head, All-tail}
 use Rattle.qtc_base.specs.Decimal.{decimal_text, number_of}
 use Rattle.qtc_ops.specs.declared.fold_ops.FoldOp.{FoldOp}
-use Rattle.qtc_job.specs.declared.jobs.ChainOp.{ChainOp}
-use Rattle.qtc_job.specs.declared.jobs.ChainOp.TheVariants as chain
-use Rattle.qtc_job.specs.declared.keywords.Keyword.{Keyword}
-use Rattle.qtc_job.specs.declared.keywords.Keyword.TheVariants as word
-use Rattle.qtc_job.specs.Canonical.{after_lines, chain_words, fold_lines, job_lines, line_text, op_words, order_words, priority_text, watch_lines}
+use Rattle.qtc_job_file.specs.declared.jobs.ChainOp.{ChainOp}
+use Rattle.qtc_job_file.specs.declared.jobs.ChainOp.TheVariants as chain
+use Rattle.qtc_job_file.specs.declared.keywords.Keyword.{Keyword}
+use Rattle.qtc_job_file.specs.declared.keywords.Keyword.TheVariants as word
+use Rattle.qtc_job_file.specs.Canonical.{after_lines, chain_words, fold_lines, job_lines, line_text, op_words, order_words, priority_text, watch_lines}
 use Rattle.qtc_job.specs.Codes.{form_codes, job_codes, lacks_input, lacks_one_function, orders_no_fold, stands, where_}
 use Rattle.qtc_job.specs.Forms.{directive_form}
-use Rattle.qtc_job.specs.Keywords.{spelling}
-use Rattle.qtc_job.specs.Lawful.{AreBlocks, IsFold, IsJob, IsOp, IsPriority, IsStep, IsWithin}
-use Rattle.qtc_job.specs.Limits.{default_block}
+use Rattle.qtc_job_file.specs.Keywords.{spelling}
+use Rattle.qtc_job_file.specs.Lawful.{AreBlocks, IsFold, IsJob, IsOp, IsPriority, IsStep, IsWithin}
+use Rattle.qtc_base.specs.Limits.{default_block}
 use Rattle.qtc_job.specs.Lines.{Line, too_long, silent, unknown, workers, job, says, args_in, begins}
-use Rattle.qtc_job.specs.Literals.{is_name, is_name_byte, priority_of}
+use Rattle.qtc_job.specs.Literals.{priority_of}
+use Rattle.qtc_job_file.specs.Names.{is_name, is_name_byte}
 use Rattle.qtc_job.specs.Meaning.{args_of, chain_of, job_of, map_meant, filter_meant, fold_meant, order_meant, list_meant, number_at, text_at, word_at}
 use Rattle.qtc_job.specs.Tails.{tail}
-use Rattle.qtc_job.proofs.KeywordLemmas.{spelling-same}
+use Rattle.qtc_job_file.proofs.KeywordLemmas.{spelling-same}
 use Rattle.qtc_job.proofs.NumberLemmas.{number-size, priority-size}
 use Rattle.qtc_job.proofs.PlaceLemmas.{append-none, where-none}
 use Rattle.qtc_job.proofs.LawfulLines.{tail-size, input-said, map-said, filter-said, fold-said, list-said, failed-said, canceled-said, blocks-said, priority-said, cancel-said, suspend-said}

@@ -10,19 +10,19 @@ use Rattle.std.proofs.lemmas.List.Quantifiers.{all_pairs_push}
 use Rattle.std.proofs.lemmas.List.{length-map}
 use Rattle.std.proofs.lemmas.Slice.Eq.{bytes_eq-Decides}
 use Rattle.qtc_base.specs.Decimal.{decimal_text}
-use Rattle.qtc_job.specs.declared.jobs.Job.{Job}
-use Rattle.qtc_job.specs.declared.jobs.JobFile.{JobFile}
-use Rattle.qtc_job.specs.declared.jobs.ParseFault.{ParseFault}
-use Rattle.qtc_job.specs.declared.keywords.Keyword.{Keyword}
-use Rattle.qtc_job.specs.declared.keywords.Keyword.TheVariants as word
-use Rattle.qtc_job.specs.Canonical.{file_lines, job_lines, line_text, names_of}
+use Rattle.qtc_job_file.specs.declared.jobs.Job.{Job}
+use Rattle.qtc_job_file.specs.declared.jobs.JobFile.{JobFile}
+use Rattle.qtc_job.specs.declared.faults.ParseFault.{ParseFault}
+use Rattle.qtc_job_file.specs.declared.keywords.Keyword.{Keyword}
+use Rattle.qtc_job_file.specs.declared.keywords.Keyword.TheVariants as word
+use Rattle.qtc_job_file.specs.Canonical.{file_lines, job_lines, line_text, names_of}
 use Rattle.qtc_job.specs.Codes.{above_codes, codes_on, earlier_names, form_codes, is_a_job_too_many, is_chain, is_chained_too_late, is_in_job, is_misplaced, is_repeated, job_codes, name_of, names_above, own_above, own_below, own_codes, repeats_a_name, where_}
 use Rattle.qtc_job.specs.Forms.{directive_form, job_form, workers_form}
 use Rattle.qtc_job.specs.Grammar.{Reads}
-use Rattle.qtc_job.specs.Keywords.{spelling}
-use Rattle.qtc_job.specs.Lawful.{IsJob, IsWithin, Lawful}
+use Rattle.qtc_job_file.specs.Keywords.{spelling}
+use Rattle.qtc_job_file.specs.Lawful.{IsJob, IsWithin, Lawful}
 use Rattle.qtc_job.specs.Lines.{Line, too_long, silent, unknown, workers, job, says, lines_of}
-use Rattle.qtc_job.specs.Literals.{is_name}
+use Rattle.qtc_job_file.specs.Names.{is_name}
 use Rattle.qtc_job.specs.Meaning.{chain_of, file_of, job_of, jobs_of, workers_of}
 use Rattle.qtc_job.proofs.CanonicalFiles.{AreJobs}
 use Rattle.qtc_job.proofs.GoodLemmas.{AreGood, reads-good}

@@ -4,18 +4,19 @@ use Rattle.std.specs.Prelude.{All}
 use Rattle.std.proofs.lemmas.List.{length-map}
 use Rattle.std.proofs.lemmas.List.Elements.{All-nil, All-cons}
 use Rattle.qtc_base.specs.Decimal.{decimal_text, number_of}
-use Rattle.qtc_job.specs.declared.jobs.ChainOp.TheVariants as chain
-use Rattle.qtc_job.specs.declared.keywords.Keyword.{Keyword}
-use Rattle.qtc_job.specs.declared.keywords.Keyword.TheVariants as word
-use Rattle.qtc_job.specs.Canonical.{written, name_at, input_words, map_words, predicate_words, op_words, fold_words, list_words, chain_words, line_text}
+use Rattle.qtc_job_file.specs.declared.jobs.ChainOp.TheVariants as chain
+use Rattle.qtc_job_file.specs.declared.keywords.Keyword.{Keyword}
+use Rattle.qtc_job_file.specs.declared.keywords.Keyword.TheVariants as word
+use Rattle.qtc_job_file.specs.Canonical.{written, name_at, input_words, map_words, predicate_words, op_words, fold_words, list_words, chain_words, line_text}
 use Rattle.qtc_job.specs.Codes.{form_codes, word_codes}
 use Rattle.qtc_job.specs.Forms.{number, priority, literal, name, earlier, chosen, directive_form, workers_form, job_form, input_form, map_form, filter_form, predicate_form, fold_form, list_form}
-use Rattle.qtc_job.specs.Keywords.{keyword_of, spelling}
-use Rattle.qtc_job.specs.Lawful.{IsText, IsInput, IsMap, IsPredicate, IsOp, IsFold, IsStep, AreBlocks, IsPriority, IsWithin}
-use Rattle.qtc_job.specs.Literals.{is_name, text_of, priority_of}
+use Rattle.qtc_job_file.specs.Keywords.{keyword_of, spelling}
+use Rattle.qtc_job_file.specs.Lawful.{IsText, IsInput, IsMap, IsPredicate, IsOp, IsFold, IsStep, AreBlocks, IsPriority, IsWithin}
+use Rattle.qtc_job.specs.Literals.{text_of, priority_of}
+use Rattle.qtc_job_file.specs.Names.{is_name}
 use Rattle.qtc_job.specs.Meaning.{by_word, place_of, input_kind, input_meant, map_kind, map_meant, filter_kind, filter_meant, predicate_kind, fold_kind, fold_meant, list_kind, list_meant, number_at, text_at, word_at}
 use Rattle.qtc_job.specs.Tails.{tail}
-use Rattle.qtc_job.proofs.KeywordLemmas.{keyword-is}
+use Rattle.qtc_job_file.proofs.KeywordLemmas.{keyword-is}
 use Rattle.qtc_job.proofs.NumberLemmas.{number-short, within-is, priority-is}
 use Rattle.qtc_job.proofs.PlaceLemmas.{HaveNoCodes, exactly-one_good, exactly-two_good, up_to-good, number-good, priority-good, literal-good, name-good, earlier-good, name-found, name-longer}
 use Rattle.qtc_job.proofs.SourceLemmas.{IsCut, AreCut, IsSourced, join-size}

@@ -10,7 +10,6 @@ pub mod SearchLemmas
 pub mod MarkLemmas
 pub mod ParseLemmas
 pub mod LineLemmas
-pub mod KeywordLemmas
 pub mod WrittenLemmas
 pub mod NumberLemmas
 pub mod CutLemmas

@@ -1,7 +1,7 @@
 -- Lines that are appended word by word.
 use Rattle.std.proofs.Common.{◌≡◌, ℕ, List, [], ◌∷◌, ◌++◌, refl, ap, sym, ◌∙◌, append_assoc, append-nil}
 use Rattle.std.specs.List.{join_with_byte}
-use Rattle.qtc_job.specs.Canonical.{ended_line}
+use Rattle.qtc_job_file.specs.Canonical.{ended_line}
 use Rattle.qtc_job.specs.Tails.{tail, ended_lines}
 
 pub join-tail : (word : List ℕ) (words : List (List ℕ)) → join_with_byte 32 (word ∷ words) ≡ word ++ tail words

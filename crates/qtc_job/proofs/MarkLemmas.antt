@@ -3,7 +3,7 @@ use Rattle.std.proofs.Common.{◌≡◌, ℕ, true, false, List, [], ◌∷◌, 
 use Rattle.qtc_base.specs.Lines.{lines}
 use Rattle.qtc_job.specs.declared.heads.Head.{Head}
 use Rattle.qtc_job.specs.declared.heads.Head.TheVariants as head
-use Rattle.qtc_job.specs.declared.keywords.Keyword.{Keyword}
+use Rattle.qtc_job_file.specs.declared.keywords.Keyword.{Keyword}
 use Rattle.qtc_job.specs.declared.marks.Marks.{Marks}
 use Rattle.qtc_job.specs.Codes.{own_below}
 use Rattle.qtc_job.specs.Heads.{IsSeen}

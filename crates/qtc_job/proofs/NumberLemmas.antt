@@ -2,17 +2,16 @@
 use Rattle.std.proofs.Common.{◌≡◌, ℕ, zero, suc, ◌-◌, ◌*◌, ◌^◌, ◌<◌, ◌≤◌, true, false, List, [], ◌∷◌, length, get_or, drop, ap, ⊎_elim, arith}
 use Rattle.std.specs.Prelude.{ℤ, pos, negsuc, neg_ℤ}
 use Rattle.std.specs.List.{All}
-use Rattle.std.proofs.Math.Nat.{pow-succ'}
+use Rattle.std.proofs.Math.Nat.{pow-succ', pow-le-pow_right}
 use Rattle.std.proofs.lemmas.Bool.{cases_Bool, ne_eqb, le-leb, leb-true, and_parts, and_from}
 use Rattle.std.proofs.lemmas.Fmt.{length-decimal-le_wide}
 use Rattle.std.proofs.lemmas.List.Elements.{All-cons, All-head, All-tail, All-weaker}
-use Rattle.std.proofs.Math.Nat.{pow-le-pow_right}
 use Rattle.std.proofs.lemmas.Int.{ints}
 use Rattle.qtc_base.specs.Decimal.{decimal_text, IsDigit, IsNumber, number_of}
 use Rattle.qtc_base.proofs.DecimalLaws.{decimal-spells}
 use Rattle.qtc_base.proofs.NumberLaws.{digits-count}
-use Rattle.qtc_job.specs.Canonical.{priority_text}
-use Rattle.qtc_job.specs.Lawful.{IsPriority}
+use Rattle.qtc_job_file.specs.Canonical.{priority_text}
+use Rattle.qtc_job_file.specs.Lawful.{IsPriority}
 use Rattle.qtc_job.specs.Literals.{is_numeral, is_within, is_negative, unsigned, is_priority, priority_of}
 use Rattle.qtc_job.proofs.LiteralLemmas.{numeral-decides}
 

@@ -4,10 +4,10 @@ use Rattle.std.specs.List.{onto_first}
 use Rattle.std.proofs.lemmas.Bool.{cases_Bool}
 use Rattle.qtc_base.specs.Lines.{lines}
 use Rattle.std.specs.Prelude.{IfOk, IfErr}
-use Rattle.qtc_job.specs.declared.jobs.Job.{Job}
-use Rattle.qtc_job.specs.declared.jobs.JobFile.{JobFile}
-use Rattle.qtc_job.specs.declared.jobs.ParseFault.{ParseFault}
-use Rattle.qtc_job.specs.declared.jobs.ParseFault.TheVariants as fault
+use Rattle.qtc_job_file.specs.declared.jobs.Job.{Job}
+use Rattle.qtc_job_file.specs.declared.jobs.JobFile.{JobFile}
+use Rattle.qtc_job.specs.declared.faults.ParseFault.{ParseFault}
+use Rattle.qtc_job.specs.declared.faults.ParseFault.TheVariants as fault
 use Rattle.qtc_job.specs.declared.readers.Reader.{Reader}
 use Rattle.qtc_job.specs.Grammar.{Reads}
 use Rattle.qtc_job.specs.Lines.{Line, line_of, lines_of}

@@ -7,10 +7,11 @@ use Rattle.std.proofs.lemmas.Bool.{cases_Bool, ltb-false, eqb-false, not-false, 
 use Rattle.std.proofs.lemmas.List.{take_all, get_or_append_left}
 use Rattle.std.proofs.lemmas.Slice.Eq.{bytes_eq-Decides}
 use Rattle.qtc_job.specs.Answers.{one_codes}
-use Rattle.qtc_job.specs.Canonical.{name_at}
+use Rattle.qtc_job_file.specs.Canonical.{name_at}
 use Rattle.qtc_job.specs.Codes.{where_, form_codes, word_codes, is_no_number, is_out_of_range, names_no_job, is_no_literal, is_no_name}
 use Rattle.qtc_job.specs.Forms.{Place, number, priority, literal, name, earlier, exactly, up_to}
-use Rattle.qtc_job.specs.Literals.{is_numeral, is_within, unsigned, is_priority, is_literal, is_name, literal_of, text_of}
+use Rattle.qtc_job.specs.Literals.{is_numeral, is_within, unsigned, is_priority, is_literal, literal_of, text_of}
+use Rattle.qtc_job_file.specs.Names.{is_name}
 use Rattle.qtc_job.specs.Meaning.{place_of}
 use Rattle.qtc_job.proofs.FormLemmas.{exactly-none, exactly-one, exactly-two, up_to-many}
 

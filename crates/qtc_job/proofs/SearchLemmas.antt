@@ -8,7 +8,7 @@ use Rattle.qtc_job.specs.Answers.{least}
 use Rattle.std.specs.List.{flat_map}
 use Rattle.qtc_job.specs.Codes.{codes_on, own_codes, job_codes, own_below, above_codes, form_codes, word_codes, where_, is_unknown, ends_early, has_more_words, is_no_number, is_out_of_range, names_no_job, is_no_literal, is_no_name, is_repeated, repeats_a_name, is_a_job_too_many, is_misplaced, is_chained_too_late, lacks_input, lacks_one_function, orders_no_fold, earlier_names}
 use Rattle.qtc_job.specs.Forms.{Form, Place, placed, workers_form, job_form, directive_form}
-use Rattle.qtc_job.specs.declared.jobs.JobFile.{JobFile}
+use Rattle.qtc_job_file.specs.declared.jobs.JobFile.{JobFile}
 use Rattle.qtc_job.specs.Meaning.{file_of}
 use Rattle.qtc_job.specs.Grammar.{IsBad, IsLeastBad, Reads, codes_at}
 use Rattle.qtc_job.specs.Lines.{Line, too_long, silent, unknown, workers, job, says, is_job}

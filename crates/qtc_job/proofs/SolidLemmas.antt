@@ -16,18 +16,18 @@ use Rattle.qtc_ops.specs.declared.predicates.Pred.TheVariants as kept
 use Rattle.qtc_ops.specs.declared.fold_ops.FoldOp.{FoldOp}
 use Rattle.qtc_ops.specs.declared.fold_ops.FoldOp.TheVariants as folded
 use Rattle.qtc_ops.specs.declared.list_ops.ListOp.TheVariants as listed
-use Rattle.qtc_job.specs.declared.jobs.ChainOp.{ChainOp}
-use Rattle.qtc_job.specs.declared.jobs.ChainOp.TheVariants as chain
-use Rattle.qtc_job.specs.declared.jobs.Input.{Input}
-use Rattle.qtc_job.specs.declared.jobs.Input.TheVariants as input
-use Rattle.qtc_job.specs.declared.jobs.Job.{Job}
-use Rattle.qtc_job.specs.declared.jobs.JobFile.{JobFile}
-use Rattle.qtc_job.specs.declared.keywords.Keyword.{Keyword}
-use Rattle.qtc_job.specs.declared.keywords.Keyword.TheVariants as word
-use Rattle.qtc_job.specs.Canonical.{is_plain, written, written_byte, name_at, input_words, predicate_words, op_words, fold_words, chain_words, order_words, fold_lines, after_lines, watch_lines, job_lines, names_of, file_lines, line_text}
-use Rattle.qtc_job.specs.Keywords.{spelling}
-use Rattle.qtc_job.specs.Lawful.{IsText, IsInput, IsPredicate, IsOp, IsFold, IsStep, IsWithin, IsJob, Lawful}
-use Rattle.qtc_job.specs.Literals.{is_name, is_name_byte}
+use Rattle.qtc_job_file.specs.declared.jobs.ChainOp.{ChainOp}
+use Rattle.qtc_job_file.specs.declared.jobs.ChainOp.TheVariants as chain
+use Rattle.qtc_job_file.specs.declared.jobs.Input.{Input}
+use Rattle.qtc_job_file.specs.declared.jobs.Input.TheVariants as input
+use Rattle.qtc_job_file.specs.declared.jobs.Job.{Job}
+use Rattle.qtc_job_file.specs.declared.jobs.JobFile.{JobFile}
+use Rattle.qtc_job_file.specs.declared.keywords.Keyword.{Keyword}
+use Rattle.qtc_job_file.specs.declared.keywords.Keyword.TheVariants as word
+use Rattle.qtc_job_file.specs.Canonical.{is_plain, written, written_byte, name_at, input_words, predicate_words, op_words, fold_words, chain_words, order_words, fold_lines, after_lines, watch_lines, job_lines, names_of, file_lines, line_text}
+use Rattle.qtc_job_file.specs.Keywords.{spelling}
+use Rattle.qtc_job_file.specs.Lawful.{IsText, IsInput, IsPredicate, IsOp, IsFold, IsStep, IsWithin, IsJob, Lawful}
+use Rattle.qtc_job_file.specs.Names.{is_name, is_name_byte}
 use Rattle.qtc_job.proofs.CutLemmas.{IsSolid, AreSolid, AreWhole}
 use Rattle.qtc_job.proofs.CanonicalFiles.{AreJobs}
 use Rattle.qtc_job.proofs.NumberLemmas.{number-solid, priority-solid}

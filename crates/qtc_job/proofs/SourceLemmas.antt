@@ -6,14 +6,14 @@ use Rattle.std.proofs.lemmas.List.Elements.{All-head, All-weaker}
 use Rattle.qtc_base.specs.Lines.{lines}
 use Rattle.qtc_base.specs.Words.{parts, AreWords}
 use Rattle.qtc_base.proofs.WordLaws.{words-are}
-use Rattle.qtc_job.specs.declared.keywords.Keyword.{Keyword}
-use Rattle.qtc_job.specs.declared.keywords.Keyword.TheVariants as word
-use Rattle.qtc_job.specs.Canonical.{line_text}
-use Rattle.qtc_job.specs.Keywords.{keyword_of, spelling}
+use Rattle.qtc_job_file.specs.declared.keywords.Keyword.{Keyword}
+use Rattle.qtc_job_file.specs.declared.keywords.Keyword.TheVariants as word
+use Rattle.qtc_job_file.specs.Canonical.{line_text}
+use Rattle.qtc_job_file.specs.Keywords.{keyword_of, spelling}
 use Rattle.qtc_job.specs.Lines.{Line, workers, job, says, directive_line, line_of, line_of_words, lines_of}
 use Rattle.qtc_job.specs.Tails.{tail}
 use Rattle.qtc_job.specs.Words.{gaps, words}
-use Rattle.qtc_job.proofs.KeywordLemmas.{keyword-is}
+use Rattle.qtc_job_file.proofs.KeywordLemmas.{keyword-is}
 use Rattle.qtc_job.proofs.LineLemmas.{join-tail}
 
 -- a word that was cut from a line

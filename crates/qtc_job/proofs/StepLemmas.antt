@@ -7,14 +7,14 @@ use Rattle.std.proofs.lemmas.Bool.Decides.{nat_tests}
 use Rattle.std.proofs.lemmas.Grind.{common_steps}
 use Rattle.qtc_job.specs.declared.codes.LineFault.{LineFault}
 use Rattle.qtc_job.specs.declared.drafts.Draft.{Draft}
-use Rattle.qtc_job.specs.declared.jobs.ChainOp.{ChainOp}
-use Rattle.qtc_job.specs.declared.jobs.Job.{Job}
-use Rattle.qtc_job.specs.declared.keywords.Keyword.{Keyword}
-use Rattle.qtc_job.specs.declared.keywords.Keyword.TheVariants as word
+use Rattle.qtc_job_file.specs.declared.jobs.ChainOp.{ChainOp}
+use Rattle.qtc_job_file.specs.declared.jobs.Job.{Job}
+use Rattle.qtc_job_file.specs.declared.keywords.Keyword.{Keyword}
+use Rattle.qtc_job_file.specs.declared.keywords.Keyword.TheVariants as word
 use Rattle.qtc_job.specs.declared.marks.Marks.{Marks}
 use Rattle.qtc_job.specs.declared.readers.Reader.{Reader}
 use Rattle.qtc_job.specs.Answers.{least, IsLeast, IsFault, Gives}
-use Rattle.qtc_job.specs.Canonical.{names_of}
+use Rattle.qtc_job_file.specs.Canonical.{names_of}
 use Rattle.qtc_job.specs.Codes.{where_, stands, job_codes, is_in_job, is_single, is_chain, own_above, own_below, own_codes, codes_on, above_codes, form_codes, is_repeated, names_above, earlier_names, name_of}
 use Rattle.qtc_job.specs.Drafts.{IsDraft, IsOneOfJob, with_statement}
 use Rattle.qtc_job.specs.Forms.{workers_form, directive_form}

@@ -6,7 +6,7 @@ use Rattle.std.proofs.lemmas.Bool.{cases_Bool, cases_lt, cases_eq}
 use Rattle.std.proofs.lemmas.Bool.Decides.{nat_tests}
 use Rattle.std.proofs.lemmas.List.Elements.{All-nil, All-cons, All-head, All-tail}
 use Rattle.qtc_base.specs.Escape.{hex_glyph}
-use Rattle.qtc_job.specs.Canonical.{is_plain, written, written_byte}
+use Rattle.qtc_job_file.specs.Canonical.{is_plain, written, written_byte}
 use Rattle.qtc_job.specs.Literals.{literal_of, onto, raw_value, is_raw, escape_value, hex_pair, hex_value}
 use Rattle.qtc_job.proofs.LiteralLemmas.{literal-raw}
 

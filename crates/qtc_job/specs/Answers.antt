@@ -3,8 +3,8 @@ use Rattle.std.specs.Prelude.{◌≡◌, ℕ, ◌<◌, min, List, [], ◌∷◌,
 use Rattle.std.specs.List.{flat_map}
 use Rattle.qtc_job.specs.declared.codes.LineFault.{LineFault}
 use Rattle.qtc_job.specs.declared.codes.LineFault.TheVariants.{Wrong, Memory}
-use Rattle.qtc_job.specs.declared.keywords.Keyword.{Keyword}
-use Rattle.qtc_job.specs.Keywords.{keyword_of}
+use Rattle.qtc_job_file.specs.declared.keywords.Keyword.{Keyword}
+use Rattle.qtc_job_file.specs.Keywords.{keyword_of}
 use Rattle.qtc_job.specs.Forms.{Form, none}
 use Rattle.qtc_job.specs.Codes.{where_}
 

@@ -2,11 +2,12 @@
 use Rattle.std.specs.Prelude.{ℕ, Bool, true, false, not, ◌&&◌, ◌||◌, ◌==◌, nat_le, nat_lt, List, [], ◌∷◌, ◌++◌, length, slice_index_or, if◌then◌else◌}
 use Rattle.std.specs.List.{list_any, flat_map, filter}
 use Rattle.std.specs.Str.{bytes_eq}
-use Rattle.qtc_job.specs.declared.keywords.Keyword.{Keyword}
-use Rattle.qtc_job.specs.declared.keywords.Keyword.TheVariants as word
-use Rattle.qtc_job.specs.Limits.{most_jobs, most_chain}
+use Rattle.qtc_job_file.specs.declared.keywords.Keyword.{Keyword}
+use Rattle.qtc_job_file.specs.declared.keywords.Keyword.TheVariants as word
+use Rattle.qtc_base.specs.Limits.{most_jobs, most_chain}
 use Rattle.qtc_job.specs.Lines.{Line, too_long, silent, unknown, workers, job, says, is_workers, is_job, begins}
-use Rattle.qtc_job.specs.Literals.{is_literal, is_name, is_numeral, is_within, unsigned, is_priority}
+use Rattle.qtc_job.specs.Literals.{is_literal, is_numeral, is_within, unsigned, is_priority}
+use Rattle.qtc_job_file.specs.Names.{is_name}
 use Rattle.qtc_job.specs.Forms.{Form, none, early, exactly, up_to, Place, number, priority, literal, name, earlier, placed, directive_form, workers_form, job_form}
 
 -- the code, where its row holds

@@ -4,8 +4,8 @@ use Rattle.qtc_base.specs.Decimal.{number_of}
 use Rattle.qtc_job.specs.declared.drafts.Draft.{Draft}
 use Rattle.qtc_job.specs.declared.statements.Statement.{Statement}
 use Rattle.qtc_job.specs.declared.statements.Statement.TheVariants as says
-use Rattle.qtc_job.specs.declared.keywords.Keyword.{Keyword}
-use Rattle.qtc_job.specs.declared.keywords.Keyword.TheVariants as word
+use Rattle.qtc_job_file.specs.declared.keywords.Keyword.{Keyword}
+use Rattle.qtc_job_file.specs.declared.keywords.Keyword.TheVariants as word
 use Rattle.qtc_job.specs.Lines.{Line}
 use Rattle.qtc_job.specs.Literals.{priority_of}
 use Rattle.qtc_job.specs.Codes.{stands}

@@ -1,10 +1,10 @@
 -- The form of each directive: which words stand after it. (Own.)
 use Rattle.std.specs.Prelude.{ℕ, List, [], ◌∷◌, take, map, Option, Some}
 use Rattle.std.specs.List.{zip}
-use Rattle.qtc_job.specs.declared.keywords.Keyword.{Keyword}
-use Rattle.qtc_job.specs.declared.keywords.Keyword.TheVariants as word
-use Rattle.qtc_job.specs.Keywords.{keyword_of}
-use Rattle.qtc_job.specs.Limits.{most_workers, most_sources, most_blocks, most_block, most_piece, most_field, most_length, most_items}
+use Rattle.qtc_job_file.specs.declared.keywords.Keyword.{Keyword}
+use Rattle.qtc_job_file.specs.declared.keywords.Keyword.TheVariants as word
+use Rattle.qtc_job_file.specs.Keywords.{keyword_of}
+use Rattle.qtc_base.specs.Limits.{most_workers, most_sources, most_blocks, most_block, most_text, most_field, most_text, most_items}
 
 -- what a word may be: a number from the one to the other, a priority, a literal or name of a text, the name of this
 -- job, or that of an earlier one
@@ -31,7 +31,7 @@ chosen form (word ∷ args) = form (keyword_of word) args
 abbrev pub input_form : Option Keyword → List (List ℕ) → Form
 input_form (Some word.Lines) args = exactly (literal ∷ []) args
 input_form (Some word.Files) args = up_to most_sources literal args
-input_form (Some word.Pieces) args = exactly (number 1 most_piece ∷ literal ∷ []) args
+input_form (Some word.Pieces) args = exactly (number 1 most_text ∷ literal ∷ []) args
 input_form (Some word.Job) args = exactly (earlier ∷ []) args
 input_form (Some word.All) args = up_to most_sources earlier args
 input_form (Some word.Any) args = up_to most_sources earlier args
@@ -48,7 +48,7 @@ map_form _ args = none
 abbrev pub predicate_form : Option Keyword → List (List ℕ) → Form
 predicate_form (Some word.Contains) args = exactly (literal ∷ []) args
 predicate_form (Some word.Wildcard) args = exactly (literal ∷ []) args
-predicate_form (Some word.Longer) args = exactly (number 0 most_length ∷ []) args
+predicate_form (Some word.Longer) args = exactly (number 0 most_text ∷ []) args
 predicate_form _ args = none
 
 abbrev pub filter_form : Option Keyword → List (List ℕ) → Form

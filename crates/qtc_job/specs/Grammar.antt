@@ -1,6 +1,6 @@
 -- Which pairs of a line and a code are bad, and which file the lines without bad pairs are read as. (Own.)
 use Rattle.std.specs.Prelude.{◌≡◌, ◌⊎◌, ℕ, ◌-◌, ◌≤◌, ◌<◌, List, length, take, drop, reverse, slice_index_or, Contains}
-use Rattle.qtc_job.specs.declared.jobs.JobFile.{JobFile}
+use Rattle.qtc_job_file.specs.declared.jobs.JobFile.{JobFile}
 use Rattle.qtc_job.specs.Lines.{Line, silent}
 use Rattle.qtc_job.specs.Codes.{codes_on}
 use Rattle.qtc_job.specs.Meaning.{file_of}

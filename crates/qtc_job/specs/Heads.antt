@@ -2,7 +2,7 @@
 use Rattle.std.specs.Prelude.{◌≡◌, ℕ, List, Some}
 use Rattle.qtc_job.specs.declared.heads.Head.{Head}
 use Rattle.qtc_job.specs.declared.heads.Head.TheVariants as head
-use Rattle.qtc_job.specs.declared.keywords.Keyword.{Keyword}
+use Rattle.qtc_job_file.specs.declared.keywords.Keyword.{Keyword}
 use Rattle.qtc_job.specs.Drafts.{IsOneOfJob}
 use Rattle.qtc_job.specs.Lines.{Line, silent, unknown, workers, job, says, directive_line}
 

@@ -1,9 +1,9 @@
 -- The laws of the grammar. (Own.)
 use Rattle.std.specs.Prelude.{◌≡◌, ◌⊎◌, ℕ, List}
-use Rattle.qtc_job.specs.declared.jobs.JobFile.{JobFile}
+use Rattle.qtc_job_file.specs.declared.jobs.JobFile.{JobFile}
 use Rattle.qtc_job.specs.Grammar.{IsLeastBad, Reads}
-use Rattle.qtc_job.specs.Canonical.{canonical}
-use Rattle.qtc_job.specs.Lawful.{Lawful}
+use Rattle.qtc_job_file.specs.Canonical.{canonical}
+use Rattle.qtc_job_file.specs.Lawful.{Lawful}
 use Rattle.qtc_job.specs.Lines.{Line, lines_of}
 
 -- a file that the lines are read as, or a bad pair; never both, since lines with a bad pair are read as no file

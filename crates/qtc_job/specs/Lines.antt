@@ -2,10 +2,10 @@
 use Rattle.std.specs.Prelude.{ℕ, Bool, true, false, nat_lt, List, [], ◌∷◌, length, map, Option, Some, slice_index, ◌==◌, if◌then◌else◌}
 use Rattle.std.specs.Str.{bytes_eq}
 use Rattle.qtc_base.specs.Lines.{lines}
-use Rattle.qtc_job.specs.declared.keywords.Keyword.{Keyword}
-use Rattle.qtc_job.specs.declared.keywords.Keyword.TheVariants as word
-use Rattle.qtc_job.specs.Keywords.{keyword_of, spelling}
-use Rattle.qtc_job.specs.Limits.{most_line}
+use Rattle.qtc_job_file.specs.declared.keywords.Keyword.{Keyword}
+use Rattle.qtc_job_file.specs.declared.keywords.Keyword.TheVariants as word
+use Rattle.qtc_job_file.specs.Keywords.{keyword_of, spelling}
+use Rattle.qtc_base.specs.Limits.{most_line}
 use Rattle.qtc_job.specs.Words.{words}
 
 -- too long; silent, as a comment or a line without words; with a first word that is no directive; or a directive with

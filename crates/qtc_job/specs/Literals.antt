@@ -1,10 +1,10 @@
--- How literals, names and numbers are spelled. (Own.)
+-- How literals and numbers are spelled. (Own.)
 use Rattle.std.specs.Prelude.{ℕ, ℤ, pos, neg_ℤ, ◌+◌, ◌-◌, ◌*◌, Bool, not, ◌||◌, ◌&&◌, ◌==◌, nat_le, List, [], ◌∷◌, length, slice_index, drop, Option, Some, None, unwrap_or, if◌then◌else◌}
 use Rattle.std.specs.List.{list_all}
 use Rattle.std.specs.Option.{is_some}
 use Rattle.std.specs.Str.{all_ascii_digits}
 use Rattle.qtc_base.specs.Decimal.{number_of}
-use Rattle.qtc_job.specs.Limits.{most_name, most_digits, most_priority, least_priority}
+use Rattle.qtc_base.specs.Limits.{most_digits, most_priority, least_priority}
 
 -- ---- literals and names of texts
 
@@ -50,19 +50,9 @@ is_literal word = is_some (literal_of word)
 abbrev pub text_of : List ℕ → List ℕ
 text_of word = unwrap_or (literal_of word) []
 
--- ---- names of jobs
-
--- A to Z, a to z, 0 to 9, _ or -
-abbrev pub is_name_byte : ℕ → Bool
-is_name_byte byte =
-    (nat_le 65 byte && nat_le byte 90) || ((nat_le 97 byte && nat_le byte 122) || ((nat_le 48 byte && nat_le byte 57) || (byte == 95 || byte == 45)))
-
-abbrev pub is_name : List ℕ → Bool
-is_name word = nat_le 1 (length word) && (nat_le (length word) most_name && list_all is_name_byte word)
-
 -- ---- numbers
 
--- 1 to 10 decimal digits
+-- 1 to so many decimal digits
 abbrev pub is_numeral : List ℕ → Bool
 is_numeral word = nat_le 1 (length word) && (nat_le (length word) most_digits && all_ascii_digits word)
 

@@ -1,7 +1,7 @@
 -- Which of its directives a job has, as far as the codes of its job line ask. (Own.)
 use Rattle.std.specs.Prelude.{◌≡◌, List}
 use Rattle.qtc_job.specs.declared.marks.Marks.{Marks}
-use Rattle.qtc_job.specs.declared.keywords.Keyword.TheVariants as word
+use Rattle.qtc_job_file.specs.declared.keywords.Keyword.TheVariants as word
 use Rattle.qtc_job.specs.Codes.{stands}
 use Rattle.qtc_job.specs.Lines.{Line}
 

@@ -13,16 +13,16 @@ use Rattle.qtc_ops.specs.declared.fold_ops.FoldOp.{FoldOp}
 use Rattle.qtc_ops.specs.declared.fold_ops.FoldOp.TheVariants as folded
 use Rattle.qtc_ops.specs.declared.list_ops.ListOp.{ListOp}
 use Rattle.qtc_ops.specs.declared.list_ops.ListOp.TheVariants as listed
-use Rattle.qtc_job.specs.declared.jobs.Input.{Input}
-use Rattle.qtc_job.specs.declared.jobs.Input.TheVariants as input
-use Rattle.qtc_job.specs.declared.jobs.ChainOp.{ChainOp}
-use Rattle.qtc_job.specs.declared.jobs.ChainOp.TheVariants as chain
-use Rattle.qtc_job.specs.declared.jobs.Job.{Job}
-use Rattle.qtc_job.specs.declared.jobs.JobFile.{JobFile}
-use Rattle.qtc_job.specs.declared.keywords.Keyword.{Keyword}
-use Rattle.qtc_job.specs.declared.keywords.Keyword.TheVariants as word
-use Rattle.qtc_job.specs.Keywords.{keyword_of}
-use Rattle.qtc_job.specs.Limits.{default_workers, default_block}
+use Rattle.qtc_job_file.specs.declared.jobs.Input.{Input}
+use Rattle.qtc_job_file.specs.declared.jobs.Input.TheVariants as input
+use Rattle.qtc_job_file.specs.declared.jobs.ChainOp.{ChainOp}
+use Rattle.qtc_job_file.specs.declared.jobs.ChainOp.TheVariants as chain
+use Rattle.qtc_job_file.specs.declared.jobs.Job.{Job}
+use Rattle.qtc_job_file.specs.declared.jobs.JobFile.{JobFile}
+use Rattle.qtc_job_file.specs.declared.keywords.Keyword.{Keyword}
+use Rattle.qtc_job_file.specs.declared.keywords.Keyword.TheVariants as word
+use Rattle.qtc_job_file.specs.Keywords.{keyword_of}
+use Rattle.qtc_base.specs.Limits.{default_workers, default_block}
 use Rattle.qtc_job.specs.Lines.{Line, workers, job, says, begins, args_in}
 use Rattle.qtc_job.specs.Literals.{text_of, priority_of}
 use Rattle.qtc_job.specs.Codes.{name_of, own_below, stands}

@@ -2,17 +2,17 @@
 use Rattle.std.specs.Prelude.{◌≡◌, ℕ, ◌+◌, ◌<◌, true, false, is_some, List, [], ◌∷◌, ◌++◌, Option, Some, None, unwrap_or, Result, Ok, Err}
 use Rattle.std.specs.List.{list_any}
 use Rattle.qtc_job.specs.declared.drafts.Draft.{Draft}
-use Rattle.qtc_job.specs.declared.jobs.Job.{Job}
-use Rattle.qtc_job.specs.declared.jobs.JobFile.{JobFile}
-use Rattle.qtc_job.specs.declared.jobs.ParseFault.{ParseFault}
-use Rattle.qtc_job.specs.declared.jobs.ParseFault.TheVariants as fault
+use Rattle.qtc_job_file.specs.declared.jobs.Job.{Job}
+use Rattle.qtc_job_file.specs.declared.jobs.JobFile.{JobFile}
+use Rattle.qtc_job.specs.declared.faults.ParseFault.{ParseFault}
+use Rattle.qtc_job.specs.declared.faults.ParseFault.TheVariants as fault
 use Rattle.qtc_job.specs.declared.readers.Reader.{Reader}
 use Rattle.qtc_job.specs.declared.refusals.Refusal.{Refusal}
 use Rattle.qtc_job.specs.declared.refusals.Refusal.TheVariants as refusal
 use Rattle.qtc_job.specs.Answers.{least, IsLeast}
-use Rattle.qtc_job.specs.Canonical.{names_of}
+use Rattle.qtc_job_file.specs.Canonical.{names_of}
 use Rattle.qtc_job.specs.Codes.{is_in_job, names_above, earlier_names, own_above, own_below, own_codes, job_codes}
-use Rattle.qtc_job.specs.declared.keywords.Keyword.{Keyword}
+use Rattle.qtc_job_file.specs.declared.keywords.Keyword.{Keyword}
 use Rattle.qtc_job.specs.Statements.{statement_of}
 use Rattle.qtc_job.specs.Drafts.{IsDraft, with_statement}
 use Rattle.qtc_job.specs.Lines.{Line, job, says, is_workers}

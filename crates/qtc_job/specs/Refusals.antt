@@ -1,7 +1,7 @@
 -- What a refusal of a job file says. (Own.)
 use Rattle.std.specs.Prelude.{ℕ, List}
-use Rattle.qtc_job.specs.declared.jobs.ParseFault.{ParseFault}
-use Rattle.qtc_job.specs.declared.jobs.ParseFault.TheVariants.{Bad, Memory}
+use Rattle.qtc_job.specs.declared.faults.ParseFault.{ParseFault}
+use Rattle.qtc_job.specs.declared.faults.ParseFault.TheVariants.{Bad, Memory}
 use Rattle.qtc_job.specs.Grammar.{IsLeastBad}
 use Rattle.qtc_job.specs.Lines.{lines_of}
 

@@ -1,9 +1,9 @@
 -- What one line of a job says, where nothing is wrong with it. (Own.)
 use Rattle.std.specs.Prelude.{ℕ, List, map}
 use Rattle.qtc_base.specs.Decimal.{number_of}
-use Rattle.qtc_job.specs.declared.jobs.ChainOp.TheVariants as chain
-use Rattle.qtc_job.specs.declared.keywords.Keyword.{Keyword}
-use Rattle.qtc_job.specs.declared.keywords.Keyword.TheVariants as word
+use Rattle.qtc_job_file.specs.declared.jobs.ChainOp.TheVariants as chain
+use Rattle.qtc_job_file.specs.declared.keywords.Keyword.{Keyword}
+use Rattle.qtc_job_file.specs.declared.keywords.Keyword.TheVariants as word
 use Rattle.qtc_job.specs.declared.statements.Statement.{Statement}
 use Rattle.qtc_job.specs.declared.statements.Statement.TheVariants as says
 use Rattle.qtc_job.specs.Literals.{priority_of}

@@ -2,10 +2,10 @@
 use Rattle.std.specs.Prelude.{ℕ, List, ◌∷◌, ◌++◌, [], map}
 use Rattle.std.specs.List.{flat_map}
 use Rattle.qtc_base.specs.Decimal.{decimal_text}
-use Rattle.qtc_job.specs.declared.jobs.Job.{Job}
-use Rattle.qtc_job.specs.declared.keywords.Keyword.TheVariants as word
-use Rattle.qtc_job.specs.Keywords.{spelling}
-use Rattle.qtc_job.specs.Canonical.{after_lines, chain_words, ended_line, fold_lines, priority_text, watch_lines}
+use Rattle.qtc_job_file.specs.declared.jobs.Job.{Job}
+use Rattle.qtc_job_file.specs.declared.keywords.Keyword.TheVariants as word
+use Rattle.qtc_job_file.specs.Keywords.{spelling}
+use Rattle.qtc_job_file.specs.Canonical.{after_lines, chain_words, ended_line, fold_lines, priority_text, watch_lines}
 
 -- each after one space
 abbrev pub spaced : List ℕ → List ℕ

@@ -1,4 +1,5 @@
 ghost use Rattle.std.specs.Prelude.{◌≡◌, ℕ, ◌&&◌, not, true, is_some, List as PlainList, [], ◌∷◌, OnOk, OnErr, IfOk};
+ghost use Rattle.qtc_base.specs.Limits.{default_block};
 ghost use Rattle.qtc_job.specs.Drafts.{IsDraft, IsOneOfJob, one_of, with_statement};
 ghost use Rattle.qtc_job.specs.Lines.{Line, says};
 ghost use Rattle.qtc_job.specs.Codes.{above_codes, is_chain, is_in_job, is_single, job_codes, own_above, stands};
@@ -9,19 +10,13 @@ ghost use Rattle.qtc_job.specs.Meaning.{job_of};
 use crate::codes::{
     CHAIN_TOO_LONG, LineFault, NO_INPUT, NOT_ONE_FUNCTION, ORDER_WITHOUT_FOLD, REPEATED,
 };
-use crate::keywords::Keyword;
+use crate::limits::{DEFAULT_BLOCK, MOST_CHAIN};
 use crate::marks::Marks;
 use crate::statements::Statement;
-use crate::{ChainOp, Input, Job};
 use qtc_base::{Bytes, List, NoMemory};
+use qtc_job_file::{ChainOp, Input, Job, Keyword};
 use qtc_ops::{FoldOp, ItemOp};
 use std::alloc::Global;
-
-/// The size of the blocks of a job that names none.
-const DEFAULT_BLOCK: u32 = 16;
-
-/// The most lines of a chain.
-const MOST_CHAIN: usize = 8;
 
 /// What the lines of a job have said of it so far.
 #[derive(Drop)]
@@ -221,7 +216,7 @@ fn is_order_alone(order: &Option<bool>, fold: &Option<FoldOp>) -> bool
 
 /// The blocks of a job that names none.
 fn default_blocks(alloc: Global) -> Result<List<u32>, NoMemory>
-    ensures { IfOk result (λ blocks. blocks ≡ 16 ∷ []) }
+    ensures { IfOk result (λ blocks. blocks ≡ default_block ∷ []) }
 {
     let mut blocks = List::new(alloc);
     match blocks.push(DEFAULT_BLOCK) {

@@ -1,20 +1,19 @@
 ghost use Rattle.std.specs.Prelude.{◌≡◌, ℕ, List as PlainList, ◌≤◌, ◌<◌, false, true, length, ◌∷◌, IfNone, MatchOption};
 ghost use Rattle.std.specs.List.{list_any};
 ghost use Rattle.std.specs.Str.{bytes_eq};
-ghost use Rattle.qtc_job.specs.Canonical.{names_of};
+ghost use Rattle.qtc_base.specs.Limits.{most_jobs};
+ghost use Rattle.qtc_job_file.specs.Canonical.{names_of};
 ghost use Rattle.qtc_job.specs.Answers.{IsLeastSoFar};
 ghost use Rattle.qtc_job.specs.Codes.{above_codes, names_above, word_codes};
 ghost use Rattle.qtc_job.specs.Lines.{Line, job};
 ghost use Rattle.qtc_job.specs.Forms.{earlier};
 ghost use Rattle.qtc_job.specs.Meaning.{place_of};
 
-use crate::Job;
 use crate::codes::{LineFault, NAME_REPEATED, NO_EARLIER_JOB, TOO_MANY_JOBS};
+use crate::limits::MOST_JOBS;
 use crate::places::Place;
+use qtc_job_file::Job;
 use std::alloc::Global;
-
-/// The most jobs of a file.
-const MOST_JOBS: usize = 64;
 
 /// Where the job of this name stands among the jobs, from 0.
 pub fn place_among(jobs: &[Job], word: &[u8]) -> Option<usize>
@@ -38,7 +37,7 @@ pub fn place_among(jobs: &[Job], word: &[u8]) -> Option<usize>
 pub fn name_code(jobs: &[Job], name: &[u8]) -> Option<u32>
     ensures code { (above : PlainList Line) (after : PlainList (PlainList ℕ)) → names_above above ≡ names_of jobs.now
         → IsLeastSoFar (above_codes above (job (name.now ∷ after))) result }
-    ensures room { IfNone result (length jobs.now < 64) }
+    ensures room { IfNone result (length jobs.now < most_jobs) }
 {
     if place_among(jobs, name).is_some() {
         return Some(NAME_REPEATED);
@@ -53,7 +52,7 @@ pub fn name_code(jobs: &[Job], name: &[u8]) -> Option<u32>
 #[derive(Drop)]
 pub struct EarlierJob<'a> {
     pub jobs: &'a [Job],
-    ghost few: { length jobs.now ≤ 64 },
+    ghost few: { length jobs.now ≤ most_jobs },
 }
 
 impl Place for EarlierJob<'_> {

@@ -4,8 +4,8 @@ ghost use Rattle.qtc_base.specs.Words.{words_left};
 ghost use Rattle.qtc_job.specs.Heads.{head_line, IsHead, IsOfJob};
 ghost use Rattle.qtc_job.specs.Lines.{line_of_words};
 
-use crate::keywords::Keyword;
 use qtc_base::Words;
+use qtc_job_file::Keyword;
 
 /// What a line that isn't too long is, by its first word.
 #[derive(Clone, Copy)]

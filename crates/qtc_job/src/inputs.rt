@@ -1,31 +1,28 @@
 //! The inputs that the lines of a job name.
 ghost use Rattle.std.specs.Prelude.{◌≡◌, ℕ, List as PlainList, Some, [], ◌∷◌, ◌++◌, map};
+ghost use Rattle.qtc_base.specs.Limits.{most_sources, most_text};
 ghost use Rattle.qtc_base.specs.Words.{words_left};
 ghost use Rattle.qtc_job.specs.Answers.{Gives, IsFault};
-ghost use Rattle.qtc_job.specs.Canonical.{names_of};
+ghost use Rattle.qtc_job_file.specs.Canonical.{names_of};
 ghost use Rattle.qtc_job.specs.Codes.{form_codes};
 ghost use Rattle.qtc_job.specs.Forms.{chosen, exactly, up_to, number, literal, earlier, input_form};
 ghost use Rattle.qtc_job.specs.Literals.{text_of};
 ghost use Rattle.qtc_job.specs.Meaning.{input_kind as input_kind_of, input_meant, number_at, place_of, text_at, word_at};
 
-use crate::Input;
 use crate::codes::{ENDS_EARLY, LineFault, UNKNOWN_WORD, either, ended};
 use crate::earlier_jobs::EarlierJob;
-use crate::keywords::Keyword;
+use crate::limits::{MOST_SOURCES, MOST_TEXT};
 use crate::operations::{next_keyword, read_text};
 use crate::places::{Literal, Number, Place, read_many, read_one};
 use qtc_base::{Bytes, List, Words};
+use qtc_job_file::{Input, Keyword};
 use std::alloc::Global;
-
-/// The most texts of `files`, and jobs of `all` and `any`.
-const MOST_SOURCES: usize = 64;
-
-const MOST_PIECE: u32 = 67_108_864;
 
 /// What a form of names of texts means.
 #[tactic(auto, using(crate::proofs::FormLemmas::form_laws))]
 fn read_texts(alloc: Global, words: &mut Words) -> Result<List<Bytes>, LineFault>
-    ensures { (names : PlainList (PlainList ℕ)) → Gives (form_codes names (up_to 64 literal (words_left words.old)))
+    ensures { (names : PlainList (PlainList ℕ)) →
+        Gives (form_codes names (up_to most_sources literal (words_left words.old)))
         (map text_of (words_left words.old)) result }
 {
     read_many(alloc, &Literal, MOST_SOURCES, words)
@@ -34,7 +31,7 @@ fn read_texts(alloc: Global, words: &mut Words) -> Result<List<Bytes>, LineFault
 /// What a form of names of earlier jobs means.
 #[tactic(auto, using(crate::proofs::FormLemmas::form_laws))]
 fn read_jobs(alloc: Global, jobs: &EarlierJob, words: &mut Words) -> Result<List<u32>, LineFault>
-    ensures { Gives (form_codes (names_of jobs.now.jobs.now) (up_to 64 earlier (words_left words.old)))
+    ensures { Gives (form_codes (names_of jobs.now.jobs.now) (up_to most_sources earlier (words_left words.old)))
         (map (place_of (names_of jobs.now.jobs.now)) (words_left words.old)) result }
 {
     read_many(alloc, jobs, MOST_SOURCES, words)
@@ -69,7 +66,7 @@ fn pieces_of(
 /// The pieces of a text.
 fn read_pieces(alloc: Global, words: &mut Words) -> Result<Input, LineFault>
     ensures { (names : PlainList (PlainList ℕ)) → Gives (form_codes names
-        (exactly (number 1 67108864 ∷ literal ∷ []) (words_left words.old)))
+        (exactly (number 1 most_text ∷ literal ∷ []) (words_left words.old)))
         (Input.Pieces (number_at (words_left words.old) 0) (text_at (words_left words.old) 1)) result }
 {
     let Some(size) = words.next() else {
@@ -80,7 +77,7 @@ fn read_pieces(alloc: Global, words: &mut Words) -> Result<Input, LineFault>
     };
     let places = Number {
         least: 1,
-        most: MOST_PIECE,
+        most: MOST_TEXT,
     };
     let read = pieces_of(places.read(alloc, size), Literal.read(alloc, text));
     ended(read, words)

@@ -1,9 +1,5 @@
 //! What the definitions of this crate say in their subjects' own words.
-ghost use Rattle.std.specs.Prelude.{◌≡◌};
 ghost use Rattle.qtc_job.specs.Laws.{CanonicalTextsAreReadBack, EachTextIsReadOrRefused, FilesThatAreReadAreLawful, LinesAreReadOnce};
-ghost use Rattle.qtc_job.specs.Limits.{most_text};
-
-use crate::MOST_TEXT;
 
 /// Lines either are read as a file, or have a bad pair of least line and then least code.
 pub fn each_text_is_read_or_refused()
@@ -23,9 +19,4 @@ pub fn files_that_are_read_are_lawful()
 /// The canonical text of each lawful file is read as that file, whatever its length.
 pub fn canonical_texts_are_read_back()
     ensures { CanonicalTextsAreReadBack }
-{}
-
-/// The limit that callers test is the one that `parse` asks for.
-pub fn the_limit_of_a_text_is_told()
-    ensures { MOST_TEXT ≡ most_text }
 {}

@@ -4,17 +4,13 @@ ghost use Rattle.std.specs.List.{list_all};
 ghost use Rattle.qtc_base.specs.Decimal.{number_of};
 ghost use Rattle.qtc_job.specs.Answers.{Gives};
 ghost use Rattle.qtc_job.specs.Codes.{where_};
-ghost use Rattle.qtc_job.specs.Literals.{hex_pair, hex_value as hex_value_of, is_literal, is_name as is_name_word, is_name_byte as is_name_letter, is_numeral, is_raw as is_raw_byte, literal_of, onto, text_of};
+ghost use Rattle.qtc_job.specs.Literals.{hex_pair, hex_value as hex_value_of, is_literal, is_numeral, is_raw as is_raw_byte, literal_of, onto, text_of};
+ghost use Rattle.qtc_job_file.specs.Names.{is_name as is_name_word, is_name_byte as is_name_letter};
 
 use crate::codes::{LineFault, NO_LITERAL};
+use crate::limits::{MOST_DIGITS, MOST_NAME};
 use qtc_base::{Bytes, read_decimal};
 use std::alloc::Global;
-
-/// The most bytes of a job's name.
-const MOST_NAME: usize = 64;
-
-/// The most digits of a number.
-const MOST_DIGITS: u32 = 10;
 
 fn is_name_byte(byte: u8) -> bool
     ensures { result ≡ is_name_letter byte }

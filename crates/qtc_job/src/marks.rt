@@ -5,7 +5,7 @@ ghost use Rattle.qtc_job.specs.Lines.{Line, says};
 ghost use Rattle.qtc_job.specs.Marks.{IsMarks};
 
 use crate::codes::{NO_INPUT, NOT_ONE_FUNCTION, ORDER_WITHOUT_FOLD};
-use crate::keywords::Keyword;
+use qtc_job_file::Keyword;
 
 /// Which of its directives a job has, as far as the codes of its job line ask.
 #[derive(Clone, Copy)]

@@ -4,21 +4,16 @@ ghost use Rattle.qtc_base.specs.Words.{words_left};
 ghost use Rattle.qtc_job.specs.Answers.{Gives, IsFault, IsChosen, IsNoneWithout};
 ghost use Rattle.qtc_job.specs.Codes.{form_codes, where_};
 ghost use Rattle.qtc_job.specs.Forms.{Form, chosen, exactly, number, literal, map_form, predicate_form, filter_form, fold_form, order_form, list_form};
-ghost use Rattle.qtc_job.specs.declared.keywords.Keyword.{Keyword};
+ghost use Rattle.qtc_job_file.specs.declared.keywords.Keyword.{Keyword};
 ghost use Rattle.qtc_job.specs.Meaning.{by_word, map_kind as map_kind_of, predicate_kind as predicate_kind_of, filter_kind as filter_kind_of, filter_meant, fold_kind as fold_kind_of, fold_meant, order_kind as order_kind_of, order_meant, list_kind as list_kind_of, list_meant, map_meant, number_at, text_at};
 
 use crate::codes::{ENDS_EARLY, LineFault, UNKNOWN_WORD, ended};
-use crate::keywords::Keyword;
+use crate::limits::{MOST_FIELD, MOST_ITEMS, MOST_TEXT};
 use crate::places::{Literal, Number, read_one};
 use qtc_base::{Bytes, Words};
+use qtc_job_file::Keyword;
 use qtc_ops::{FoldOp, ItemOp, ListOp, MapOp, Pred};
 use std::alloc::Global;
-
-const MOST_FIELD: u32 = 1000;
-
-const MOST_LENGTH: u32 = 67_108_864;
-
-pub const MOST_ITEMS: u32 = 8_388_608;
 
 /// What a form without places means.
 pub fn read_bare<T: Drop>(value: T, words: &mut Words) -> Result<T, LineFault>
@@ -109,7 +104,7 @@ fn predicate_kind(alloc: Global, kind: Keyword, words: &mut Words) -> Result<Pre
             Ok(text) => Ok(Pred::Wildcard(text)),
             Err(fault) => Err(fault),
         },
-        Keyword::Longer => match read_number(alloc, 0, MOST_LENGTH, words) {
+        Keyword::Longer => match read_number(alloc, 0, MOST_TEXT, words) {
             Ok(number) => Ok(Pred::Longer(number)),
             Err(fault) => Err(fault),
         },

@@ -6,23 +6,22 @@ ghost use Rattle.qtc_job.specs.Search.{settled};
 ghost use Rattle.qtc_job.specs.Codes.{own_below};
 ghost use Rattle.qtc_job.specs.Grammar.{Reads};
 ghost use Rattle.qtc_job.specs.Heads.{IsSeen};
-ghost use Rattle.qtc_job.specs.Lawful.{Lawful};
-ghost use Rattle.qtc_job.specs.Limits.{most_text};
+ghost use Rattle.qtc_job_file.specs.Lawful.{Lawful};
+ghost use Rattle.qtc_base.specs.Limits.{most_job_file};
 ghost use Rattle.qtc_job.specs.Lines.{Line, line_of, lines_of};
 ghost use Rattle.qtc_job.specs.Marks.{IsMarks};
 ghost use Rattle.qtc_job.specs.Readers.{IsFirst, IsRefusal, open_bad};
 ghost use Rattle.qtc_job.specs.Refusals.{Refuses};
 
 use crate::heads::{Head, read_head};
+use crate::limits::MOST_LINE;
 use crate::marks::Marks;
-use crate::readers::{GAPS, MOST_LINE, Reader};
+use crate::readers::{GAPS, Reader};
 use crate::refusals::Refusal;
-use crate::{BadJob, JobFile, ParseFault};
+use crate::{BadJob, ParseFault};
 use qtc_base::{Lines, Words};
+use qtc_job_file::JobFile;
 use std::alloc::Global;
-
-/// The most bytes of a job file.
-pub const MOST_TEXT: usize = 1_048_576;
 
 /// What a line is, by its first word.
 fn line_head(line: &[u8]) -> Head
@@ -91,7 +90,7 @@ fn settle(refusal: Refusal, number: u32, lines: Lines) -> ParseFault
 /// is bad, with the one of least line and then least code. It goes over the text once, and keeps the jobs and
 /// the words of one line. (Own.)
 pub fn parse(alloc: Global, text: &[u8]) -> Result<JobFile, ParseFault>
-    requires { length text.now ≤ most_text }
+    requires { length text.now ≤ most_job_file }
     ensures reads { IfOk result (Reads (lines_of text.now)) }
     ensures lawful { IfOk result Lawful }
     ensures refuses { IfErr result (Refuses text.now) }

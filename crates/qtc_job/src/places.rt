@@ -1,21 +1,23 @@
 //! The places of a form: what a word in each may be, and what it means.
 ghost use Rattle.std.specs.Prelude.{◌≡◌, ℕ, pos, neg_ℤ, SomeIff, if◌then◌else◌, List as PlainList, [], ◌∷◌, ◌++◌, ◌≤◌, ◌<◌, map, OnOk};
+ghost use Rattle.qtc_base.specs.Limits.{least_priority, most_priority};
 ghost use Rattle.qtc_base.specs.Words.{words_left};
 ghost use Rattle.qtc_base.specs.Decimal.{number_of};
 ghost use Rattle.qtc_job.specs.Answers.{Gives, IsLeast, IsSoFar, one_codes, many_codes};
-ghost use Rattle.qtc_job.specs.Canonical.{names_of};
+ghost use Rattle.qtc_job_file.specs.Canonical.{names_of};
 ghost use Rattle.qtc_job.specs.Codes.{word_codes};
 ghost use Rattle.qtc_job.specs.Forms.{number, priority, literal, name, earlier};
 ghost use Rattle.qtc_job.specs.Literals.{text_of, is_negative, priority_of, unsigned as unsigned_of};
 ghost use Rattle.qtc_job.specs.Meaning.{place_of, word_at};
 
-use crate::Job;
 use crate::codes::{
     ENDS_EARLY, LineFault, MORE_WORDS, NO_EARLIER_JOB, NO_NAME, NO_NUMBER, OUT_OF_RANGE, ended,
     least_with,
 };
+use crate::limits::{LEAST_PRIORITY, MOST_PRIORITY};
 use crate::literals::{is_name, read_literal, read_numeral};
 use qtc_base::{Bytes, List, NoMemory, Words};
+use qtc_job_file::Job;
 use std::alloc::Global;
 
 /// What a word in one place of a form may be.
@@ -111,16 +113,16 @@ impl Place for Priority {
 
 /// The number of this size and sign, where it is a priority.
 fn signed(negative: bool, size: u128) -> Option<i32>
-    ensures { SomeIff result (size ≤ (if negative then 2147483648 else 2147483647))
+    ensures { SomeIff result (size ≤ (if negative then least_priority else most_priority))
         (if negative then neg_ℤ (pos size) else pos size) }
 {
     if negative {
-        if size > 2_147_483_648 {
+        if size > LEAST_PRIORITY {
             return None;
         }
         return Some((-(size as i64)) as i32);
     }
-    if size > 2_147_483_647 {
+    if size > MOST_PRIORITY {
         return None;
     }
     Some(size as i32)

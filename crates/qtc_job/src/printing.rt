@@ -1,15 +1,14 @@
 ghost use Rattle.std.specs.Prelude.{◌≡◌, ℕ, List as PlainList, [], ◌∷◌, ◌++◌, OnOk, IfOk, map};
 ghost use Rattle.std.specs.List.{flat_map};
 ghost use Rattle.qtc_base.specs.Decimal.{decimal_text};
-ghost use Rattle.qtc_job.specs.Canonical.{after_lines, canonical, chain_words, ended_line, fold_lines, job_lines, names_of, op_words, order_words, watch_lines, input_words, priority_text};
-ghost use Rattle.qtc_job.specs.Keywords.{spelling};
+ghost use Rattle.qtc_job_file.specs.Canonical.{after_lines, canonical, chain_words, ended_line, fold_lines, job_lines, names_of, op_words, order_words, watch_lines, input_words, priority_text};
+ghost use Rattle.qtc_job_file.specs.Keywords.{spelling};
 ghost use Rattle.qtc_job.specs.Tails.{back_lines, ended_lines, tail};
 
-use crate::keywords::Keyword;
 use crate::words_of::{put_alone, put_filter, put_fold, put_input, put_list, put_map, put_numbers};
 use crate::words_out::{put, put_literal, put_number, put_priority};
-use crate::{ChainOp, Job, JobFile};
 use qtc_base::{Bytes, NoMemory};
+use qtc_job_file::{ChainOp, Job, JobFile, Keyword};
 use qtc_ops::{FoldOp, ItemOp};
 use std::alloc::Global;
 

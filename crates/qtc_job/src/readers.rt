@@ -1,5 +1,7 @@
 ghost use Rattle.std.specs.Prelude.{◌≡◌, ◌+◌, ◌≤◌, length, is_some, true, false, if◌then◌else◌, [], ◌∷◌, ◌++◌, OnOk, OnErr};
+ghost use Rattle.qtc_base.specs.Limits.{most_jobs};
 
+use crate::ParseFault;
 use crate::codes::{
     ENDS_EARLY, LineFault, MISPLACED, NAME_REPEATED, REPEATED, TOO_LONG, TOO_MANY_JOBS,
     UNKNOWN_WORD, either, ended, with_code,
@@ -7,23 +9,16 @@ use crate::codes::{
 use crate::drafts::Draft;
 use crate::earlier_jobs::{EarlierJob, name_code};
 use crate::heads::{Head, read_head};
-use crate::keywords::Keyword;
+use crate::limits::{DEFAULT_WORKERS, MOST_LINE, MOST_WORKERS};
 use crate::operations::read_number;
 use crate::places::{NewName, Place};
 use crate::refusals::{
     Refusal, add_said, last_fault, refused, refused_here, refused_job, refused_outside,
 };
 use crate::statements::read_statement;
-use crate::{Job, JobFile, ParseFault};
 use qtc_base::{List, NoMemory, Words};
+use qtc_job_file::{Job, JobFile, Keyword};
 use std::alloc::Global;
-
-/// The most bytes of a line of a job file, without its LF.
-pub const MOST_LINE: usize = 4096;
-
-const MOST_WORKERS: u32 = 32;
-
-const DEFAULT_WORKERS: u32 = 4;
 
 /// The bytes that part two words.
 pub const GAPS: &[u8] = b" \t\r";
@@ -36,7 +31,7 @@ pub struct Reader {
     pub jobs: List<Job>,
     /// The job whose lines are being read.
     pub draft: Option<Draft>,
-    ghost few: { length jobs + (if is_some draft then 1 else 0) ≤ 64 },
+    ghost few: { length jobs + (if is_some draft then 1 else 0) ≤ most_jobs },
 }
 
 impl Reader {

@@ -10,10 +10,10 @@ ghost use Rattle.qtc_job.specs.Readers.{Adds, IsDraftBelow, IsEndRefusal, IsFirs
 
 use crate::codes::{LineFault, with_code};
 use crate::drafts::Draft;
-use crate::keywords::Keyword;
 use crate::marks::Marks;
 use crate::statements::Statement;
-use crate::{BadJob, Job, ParseFault};
+use crate::{BadJob, ParseFault};
+use qtc_job_file::{Job, Keyword};
 
 /// Why reading ends at a line.
 #[derive(Clone, Copy)]

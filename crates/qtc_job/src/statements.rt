@@ -1,9 +1,10 @@
 //! What one line of a job says.
 ghost use Rattle.std.specs.Prelude.{◌≡◌, ℕ, List as PlainList, [], ◌∷◌, map};
+ghost use Rattle.qtc_base.specs.Limits.{most_block, most_blocks};
 ghost use Rattle.qtc_base.specs.Decimal.{number_of};
 ghost use Rattle.qtc_base.specs.Words.{words_left};
 ghost use Rattle.qtc_job.specs.Answers.{Gives};
-ghost use Rattle.qtc_job.specs.Canonical.{names_of};
+ghost use Rattle.qtc_job_file.specs.Canonical.{names_of};
 ghost use Rattle.qtc_job.specs.Codes.{form_codes};
 ghost use Rattle.qtc_job.specs.Forms.{directive_form, exactly, up_to, number, priority};
 ghost use Rattle.qtc_job.specs.Literals.{priority_of};
@@ -13,21 +14,15 @@ ghost use Rattle.qtc_job.specs.Statements.{statement_of};
 use crate::codes::{LineFault, UNKNOWN_WORD};
 use crate::earlier_jobs::EarlierJob;
 use crate::inputs::read_input;
-use crate::keywords::Keyword;
+use crate::limits::{MOST_BLOCK, MOST_BLOCKS, MOST_ITEMS};
 use crate::operations::{
-    MOST_ITEMS, read_bare, read_filter, read_fold, read_list, read_map, read_number, read_order,
-    read_text,
+    read_bare, read_filter, read_fold, read_list, read_map, read_number, read_order, read_text,
 };
 use crate::places::{Number, Priority, read_many, read_one};
-use crate::{ChainOp, Input};
 use qtc_base::{List, Words};
+use qtc_job_file::{ChainOp, Input, Keyword};
 use qtc_ops::{FoldOp, ItemOp};
 use std::alloc::Global;
-
-/// The most sizes of blocks.
-const MOST_BLOCKS: usize = 16;
-
-const MOST_BLOCK: u32 = 65_536;
 
 /// What one line of a job says.
 #[derive(Drop)]
@@ -47,8 +42,9 @@ pub enum Statement {
 
 /// What a form of sizes of blocks means.
 fn read_blocks(alloc: Global, words: &mut Words) -> Result<List<u32>, LineFault>
-    ensures { (names : PlainList (PlainList ℕ)) → Gives (form_codes names
-        (up_to 16 (number 1 65536) (words_left words.old))) (map number_of (words_left words.old)) result }
+    ensures { (names : PlainList (PlainList ℕ)) →
+        Gives (form_codes names (up_to most_blocks (number 1 most_block) (words_left words.old)))
+        (map number_of (words_left words.old)) result }
 {
     let places = Number {
         least: 1,

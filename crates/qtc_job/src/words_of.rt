@@ -1,14 +1,13 @@
 //! The words of canonical lines after the first.
 ghost use Rattle.std.specs.Prelude.{◌≡◌, ℕ, List as PlainList, [], ◌∷◌, ◌++◌, OnOk, map, if◌then◌else◌};
 ghost use Rattle.qtc_base.specs.Decimal.{decimal_text};
-ghost use Rattle.qtc_job.specs.Canonical.{fold_words, input_words, list_words, map_words, name_at, names_of, predicate_words, written};
-ghost use Rattle.qtc_job.specs.Keywords.{spelling};
+ghost use Rattle.qtc_job_file.specs.Canonical.{fold_words, input_words, list_words, map_words, name_at, names_of, predicate_words, written};
+ghost use Rattle.qtc_job_file.specs.Keywords.{spelling};
 ghost use Rattle.qtc_job.specs.Tails.{tail};
 
-use crate::keywords::Keyword;
 use crate::words_out::{put, put_keyword, put_literal, put_number};
-use crate::{Input, Job};
 use qtc_base::{Bytes, NoMemory};
+use qtc_job_file::{Input, Job, Keyword};
 use qtc_ops::{FoldOp, ListOp, MapOp, Pred};
 
 /// Appends a word of the language and a literal.

@@ -1,11 +1,11 @@
 //! Words of canonical lines, each after one space.
 ghost use Rattle.std.specs.Prelude.{◌≡◌, ◌∷◌, ◌++◌, OnOk};
 ghost use Rattle.qtc_base.specs.Decimal.{decimal_text};
-ghost use Rattle.qtc_job.specs.Canonical.{priority_text, written, written_byte};
-ghost use Rattle.qtc_job.specs.Keywords.{spelling};
+ghost use Rattle.qtc_job_file.specs.Canonical.{priority_text, written, written_byte};
+ghost use Rattle.qtc_job_file.specs.Keywords.{spelling};
 
-use crate::keywords::Keyword;
 use qtc_base::{Bytes, NoMemory, decimal, escape};
+use qtc_job_file::Keyword;
 
 /// Appends a word.
 pub fn put(into: &mut Bytes, word: &[u8]) -> Result<(), NoMemory>

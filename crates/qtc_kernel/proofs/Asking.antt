@@ -6,7 +6,8 @@ use Rattle.qtc_events.specs.Calls.{after, has_effect}
 use Rattle.qtc_events.specs.declared.calls.Call.{Call}
 use Rattle.qtc_events.specs.declared.calls.Call.TheVariants.{Start, Suspend, Resume, ReportSuspended, Cancel, Fail, Finish}
 use Rattle.qtc_events.specs.declared.entries.Reached.{Reached}
-use Rattle.qtc_store.specs.Batches.{end_of, least_covered, most_end}
+use Rattle.qtc_store.specs.Batches.{end_of, least_covered}
+use Rattle.qtc_base.specs.Limits.{most_end}
 use Rattle.qtc_store.specs.declared.batch.Batch.{Batch}
 use Rattle.qtc_future.specs.Future.{Future, Logged, batch_of, batches_in, failure_of_call, flags_of, results_of}
 use Rattle.qtc_future.specs.Steps.{Stepped, Effect, PastEnd, accepted as accepted_step, by_row, dropped as dropped_step, has_ended, judged, logged_by, offered, report_of, stays, step, with_call, with_report}

@@ -1,12 +1,12 @@
 -- What stays true of a desk of an engine.
-use Rattle.std.proofs.Common.{◌≡◌, ℕ, ◌+◌, ◌-◌, ◌<◌, ◌≤◌, ◌%◌, Bool, true, false, List, [], ◌∷◌, ◌++◌, Option, None, Some, IfSome, All, map, length, inl, inr, refl, ap, sym, ◌∙◌, subst, arith, append-nil}
+use Rattle.std.proofs.Common.{◌≡◌, ℕ, ◌+◌, ◌-◌, ◌<◌, ◌≤◌, ◌%◌, Bool, true, false, List, [], ◌∷◌, ◌++◌, All, map, length, inl, inr, refl, ap, sym, ◌∙◌, subst, arith, append-nil}
 use Rattle.std.specs.Prelude.{slice_index_or}
 use Rattle.std.specs.List.{remove}
 use Rattle.std.proofs.lemmas.Bool.Decides.{nat_tests}
 use Rattle.std.proofs.lemmas.List.{map-append}
+use Rattle.std.proofs.lemmas.List.Elements.{All-cons, All-nil, All-weaker}
 use Rattle.qtc_base.specs.Ranges.{times_covered}
-use Rattle.qtc_events.specs.declared.calls.Call.{Call}
-use Rattle.qtc_events.specs.declared.calls.Call.TheVariants.{Start, Report, Account, Suspend, Resume, ReportSuspended, Cancel, Fail, Finish}
+use Rattle.qtc_events.specs.declared.calls.Call.TheVariants.{Cancel, Fail}
 use Rattle.qtc_future.specs.Future.{Logged}
 use Rattle.qtc_claim.specs.Claims.{Addition, clipped, gave}
 use Rattle.qtc_claim.specs.Counter.{PieceState}
@@ -14,110 +14,130 @@ use Rattle.qtc_ops.specs.ItemValue.{ItemValue}
 use Rattle.qtc_shared.specs.Journals.{calls_by}
 use Rattle.qtc_shared.specs.Passes.{PassState}
 use Rattle.qtc_shared.proofs.Prefixes.{begins_further}
-use Rattle.qtc_kernel.specs.Crews.{AreHandedIn, AreWorkedOn, Crew, DeskState, HasMetEnd, IsDesk, IsOwnCall, IsSeated, addition_in, given_at, opening, reporter, work_of}
+use Rattle.qtc_kernel.specs.Crews.{AreHandedIn, AreOwnCalls, AreWorkedOn, Crew, DeskState, IsDesk, IsFailedCall, IsLeft, IsOwnCall, IsSeated, given_at, is_own, opening, reporter, work_of}
 use Rattle.qtc_kernel.specs.Driving.{in_turn}
 use Rattle.qtc_kernel.specs.Endings.{IsMet}
-use Rattle.qtc_kernel.specs.Laws.{IsFailing}
 use Rattle.qtc_kernel.specs.Runs.{times_called}
-use Rattle.qtc_kernel.specs.Working.{GoesOn, HasLooked, IsGivingUp}
+use Rattle.qtc_kernel.specs.Turns.{GoesOn}
+use Rattle.qtc_kernel.specs.Working.{HasLooked, IsLeaving}
 use Rattle.qtc_kernel.specs.Workload.{Workload, indexes_of}
 use Rattle.qtc_kernel.proofs.Counting.{calls-append, calls-range, covers, times-append, times-one}
-use Rattle.qtc_kernel.proofs.Passing.{handed_on, looked_on, looked_own, looked_same}
+use Rattle.qtc_kernel.proofs.Passing.{handed_on, knows_met, left_on, looked_on, looked_own, looked_same}
+
+-- what was its own call is, where more was called and memory was wanted
+pub own_more : (work : Workload) (lacks lacks' : Bool) (calls calls' : List ℕ) (logged : Logged (List ℕ)) → (lacks ≡ true → lacks' ≡ true) → ((index : ℕ) → times_called calls index ≤ times_called calls' index)
+    → IsOwnCall work lacks calls logged → IsOwnCall work lacks' calls' logged
+own_more work lacks lacks' calls calls' logged wants more is = record {
+  own = is.own;
+  fails = λ index call. let failed = is.fails index call in let some = failed.called in let all = more index in record { failing = failed.failing; called = omega arith };
+  cancels = λ call. wants (is.cancels call);
+}
+
+pub own_cancel : (work : Workload) (calls : List ℕ) (logged : Logged (List ℕ)) → logged.entry.call ≡ Cancel → IsOwnCall work true calls logged
+own_cancel work calls logged is = record {
+  own = ap is_own is;
+  fails = λ index fails. absurd (not_fail index (sym is ∙ fails));
+  cancels = λ call. refl;
+}
+  where
+    not_fail : (index : ℕ) → Cancel ≡ Fail index → ⊥
+    not_fail index e = absurd (cc)
+
+pub own_fail : (work : Workload) (lacks : Bool) (calls : List ℕ) (index : ℕ) (item : List ℕ) (logged : Logged (List ℕ)) → IsFailedCall work calls (record { index = index; item = item }) → logged.entry.call ≡ Fail index → logged.item ≡ item → IsOwnCall work lacks calls logged
+own_fail work lacks calls index item logged failed call_is item_is = record {
+  own = ap is_own call_is;
+  fails = λ other fails.
+      subst (λ i. IsFailedCall work calls (record { index = i; item = logged.item })) (same_index index other (sym call_is ∙ fails))
+      (subst (λ it. IsFailedCall work calls (record { index = index; item = it })) (sym item_is) failed);
+  cancels = λ cancels. absurd (not_cancel index (sym call_is ∙ cancels));
+}
+  where
+    same_index : (a b : ℕ) → Fail a ≡ Fail b → a ≡ b
+    same_index a b e = cc
+
+    not_cancel : (index : ℕ) → Fail index ≡ Cancel → ⊥
+    not_cancel index e = absurd (cc)
 
 module _ {F : Type 0} (value : F → List ℕ → ItemValue) (called : F → List ℕ) (crew : Crew F) where
   -- what its pass knows grew, and its function does what it did
   pub record Follows (old new : DeskState F) : Type 0 where
     pub of : new.seat.of ≡ old.seat.of
+    pub badge : new.badge.of ≡ old.badge.of
     pub number : new.seat.worker.number ≡ old.seat.worker.number
     pub given : given_at crew.counter.n new ≡ given_at crew.counter.n old
     pub on : GoesOn old.pass new.pass
     pub same_value : value new.function ≡ value old.function
     pub turn : new.turn ≡ old.turn
 
-  pub seated_on : (old new : DeskState F) → IsSeated value crew old → Follows old new
-      → All (λ logged. IsOwnCall (work_of value crew) new.lacks logged.entry.call logged.item) (calls_by new.pass.number new.pass.known)
-      → IsSeated value crew new
-  seated_on old new seated follows own = record {
+  pub seated_on : (old new : DeskState F) → IsSeated value crew old → Follows old new → IsSeated value crew new
+  seated_on old new seated follows = record {
     counter = follows.of ∙ seated.counter;
     future = follows.on.of ∙ seated.future;
+    badge = follows.badge ∙ seated.badge;
+    childless = follows.on.children ∙ seated.childless;
     numbered = follows.on.number ∙ seated.numbered ∙ sym follows.number;
     below = subst (λ k. k < crew.counter.workers) (sym follows.number) seated.below;
     valued = follows.same_value ∙ seated.valued;
     opened = begins_further opening old.pass.known new.pass.known seated.opened follows.on.known;
-    own = own;
     turn = follows.turn ∙ seated.turn ∙ ap (λ given. length given % length crew.sizes) (sym follows.given);
     sizes = subst (λ (given : List Addition). map (λ claim. claim.size) given ≡ in_turn crew.sizes (length given)) (sym follows.given) seated.sizes;
   }
 
+  -- its own calls are those that they were, and its function called more at most
+  pub own_on : (old new : DeskState F) → AreOwnCalls value called crew old → calls_by new.pass.number new.pass.known ≡ calls_by old.pass.number old.pass.known → new.lacks ≡ old.lacks
+      → ((index : ℕ) → times_called (called old.function) index ≤ times_called (called new.function) index) → AreOwnCalls value called crew new
+  own_on old new own same lacks more =
+      subst (All (IsOwnCall (work_of value crew) new.lacks (called new.function))) (sym same)
+      (All-weaker (IsOwnCall (work_of value crew) old.lacks (called old.function)) (IsOwnCall (work_of value crew) new.lacks (called new.function))
+      (λ logged. own_more (work_of value crew) old.lacks new.lacks (called old.function) (called new.function) logged (λ is. lacks ∙ is) more) (calls_by old.pass.number old.pass.known) own)
+
   -- a desk that called nothing more
   pub desk_on : (old new : DeskState F) → IsDesk value called crew old → Follows old new
-      → calls_by new.pass.number new.pass.known ≡ calls_by old.pass.number old.pass.known → new.lacks ≡ old.lacks → new.given_up ≡ old.given_up → called new.function ≡ called old.function
+      → calls_by new.pass.number new.pass.known ≡ calls_by old.pass.number old.pass.known → new.lacks ≡ old.lacks → called new.function ≡ called old.function
       → IsDesk value called crew new
-  desk_on old new desk follows own lacks given_up calls = record {
-    seated = seated_on old new desk.seated follows
-        (subst (λ b. All (λ logged. IsOwnCall (work_of value crew) b logged.entry.call logged.item) (calls_by new.pass.number new.pass.known)) (sym lacks)
-        (subst (All (λ logged. IsOwnCall (work_of value crew) old.lacks logged.entry.call logged.item)) (sym own) desk.seated.own));
-    given_up = subst (λ o. IfSome o (λ piece. (piece.of ≡ crew.counter) × HasMetEnd new.pass)) (sym given_up) (kept old.given_up desk.given_up);
+  desk_on old new desk follows own lacks calls = record {
+    seated = seated_on old new desk.seated follows;
+    own = own_on old new desk.own own lacks (λ index. let is : times_called (called new.function) index ≡ times_called (called old.function) index = ap (λ list. times_called list index) calls in omega (arith, is));
+    left = desk.left;
+    one = desk.one;
+    left_are = All-weaker (IsLeft crew.counter.n (reporter crew) old.pass) (IsLeft crew.counter.n (reporter crew) new.pass) (left_on crew.counter.n (reporter crew) old.pass new.pass follows.on) desk.left desk.left_are;
     worked =
-        subst (λ given. AreWorkedOn crew.counter.n given (addition_in new.given_up) (called new.function)) (sym follows.given)
-        (subst (λ o. AreWorkedOn crew.counter.n (given_at crew.counter.n old) (addition_in o) (called new.function)) (sym given_up)
-        (subst (AreWorkedOn crew.counter.n (given_at crew.counter.n old) (addition_in old.given_up)) (sym calls) desk.worked));
+        subst (λ given. AreWorkedOn crew.counter.n given desk.left (called new.function)) (sym follows.given)
+        (subst (AreWorkedOn crew.counter.n (given_at crew.counter.n old) desk.left) (sym calls) desk.worked);
     handed = subst (λ given. AreHandedIn crew.counter.n (reporter crew) given new.pass) (sym follows.given)
         (handed_on crew.counter.n (reporter crew) (given_at crew.counter.n old) old.pass new.pass follows.on desk.handed);
   }
-    where
-      kept : (o : Option PieceState) → IfSome o (λ piece. (piece.of ≡ crew.counter) × HasMetEnd old.pass) → IfSome o (λ piece. (piece.of ≡ crew.counter) × HasMetEnd new.pass)
-      kept None h = h
-      kept (Some piece) h = (h.0, follows.on.ends h.1)
 
   -- it has looked, and is in or out
   pub desk_looked : (old new : DeskState F) → IsDesk value called crew old
       → new.seat.of ≡ old.seat.of → new.seat.worker.number ≡ old.seat.worker.number → new.seat.worker.claims ≡ old.seat.worker.claims
-      → HasLooked old.pass new.pass → new.function ≡ old.function → new.turn ≡ old.turn → new.lacks ≡ old.lacks → new.given_up ≡ old.given_up
+      → HasLooked old.pass new.pass → new.badge.of ≡ old.badge.of → new.function ≡ old.function → new.turn ≡ old.turn → new.lacks ≡ old.lacks
       → IsDesk value called crew new
-  desk_looked old new desk of number claims looked function turn lacks given_up =
-      desk_on old new desk (record { of = of; number = number; given = ap (gave crew.counter.n) claims; on = looked_on old.pass new.pass looked; same_value = ap value function; turn = turn })
-      (looked_own old.pass new.pass looked) lacks given_up (ap called function)
+  desk_looked old new desk of number claims looked badge function turn lacks =
+      desk_on old new desk (record { of = of; badge = badge; number = number; given = ap (gave crew.counter.n) claims; on = looked_on old.pass new.pass looked; same_value = ap value function; turn = turn })
+      (looked_own old.pass new.pass looked) lacks (ap called function)
 
   -- its worker is out
-  pub desk_left : (old new : DeskState F) → IsDesk value called crew old → new ≡ record old { is_in = false } → IsDesk value called crew new
+  pub desk_left : (old new : DeskState F) → IsDesk value called crew old → new ≡ record old { badge = record old.badge { is_in = false } } → IsDesk value called crew new
   desk_left old new desk is =
       subst (IsDesk value called crew) (sym is)
-      (desk_looked old (record old { is_in = false }) desk refl refl refl (looked_same old.pass old.pass refl) refl refl refl refl)
+      (desk_looked old (record old { badge = record old.badge { is_in = false } }) desk refl refl refl (looked_same old.pass old.pass refl) refl refl refl refl)
 
-  -- a piece is given up, where an end stands
-  pub desk_given_up : (old new : DeskState F) (piece : PieceState) → IsGivingUp value called crew old piece → Follows old new
-      → All (λ logged. IsOwnCall (work_of value crew) new.lacks logged.entry.call logged.item) (calls_by new.pass.number new.pass.known)
-      → new.given_up ≡ Some piece → called new.function ≡ called old.function → HasMetEnd new.pass
+  -- a piece is left, where an end stands
+  pub desk_leaves : (old new : DeskState F) (piece : PieceState) → IsLeaving value called crew old piece → Follows old new → AreOwnCalls value called crew new
+      → called new.function ≡ called old.function → IsLeft crew.counter.n (reporter crew) new.pass piece.addition
       → IsDesk value called crew new
-  desk_given_up old new piece giving follows own given_up calls met = record {
-    seated = seated_on old new giving.seated follows own;
-    given_up = subst (λ o. IfSome o (λ it. (it.of ≡ crew.counter) × HasMetEnd new.pass)) (sym given_up) (giving.of, met);
+  desk_leaves old new piece leaving follows own calls left = record {
+    seated = seated_on old new leaving.seated follows;
+    own = own;
+    left = piece.addition ∷ [];
+    one = omega arith;
+    left_are = All-cons (IsLeft crew.counter.n (reporter crew) new.pass) piece.addition [] left (All-nil (IsLeft crew.counter.n (reporter crew) new.pass));
     worked =
-        subst (λ given. AreWorkedOn crew.counter.n given (addition_in new.given_up) (called new.function)) (sym follows.given)
-        (subst (λ o. AreWorkedOn crew.counter.n (given_at crew.counter.n old) (addition_in o) (called new.function)) (sym given_up)
-        (subst (AreWorkedOn crew.counter.n (given_at crew.counter.n old) (piece.addition ∷ [])) (sym calls) giving.part));
-    handed = inr (inl met);
+        subst (λ given. AreWorkedOn crew.counter.n given (piece.addition ∷ []) (called new.function)) (sym follows.given)
+        (subst (AreWorkedOn crew.counter.n (given_at crew.counter.n old) (piece.addition ∷ [])) (sym calls) leaving.part);
+    handed = inr (inl (knows_met new.pass left.ended));
   }
-
--- a cancel is its own where it wanted memory
-pub own_lacking : (work : Workload) (lacks : Bool) (call : Call) (item : List ℕ) → IsOwnCall work lacks call item → IsOwnCall work true call item
-own_lacking work lacks Start item own = own
-own_lacking work lacks (Report begin kept total) item own = own
-own_lacking work lacks (Account total) item own = own
-own_lacking work lacks Suspend item own = own
-own_lacking work lacks Resume item own = own
-own_lacking work lacks ReportSuspended item own = own
-own_lacking work lacks Cancel item own = refl
-own_lacking work lacks (Fail index) item own = own
-own_lacking work lacks Finish item own = own
-
-pub own_cancel : (work : Workload) (logged : Logged (List ℕ)) → logged.entry.call ≡ Cancel → IsOwnCall work true logged.entry.call logged.item
-own_cancel work logged is = subst (λ call. IsOwnCall work true call logged.item) (sym is) refl
-
-pub own_fail : (work : Workload) (lacks : Bool) (index : ℕ) (item : List ℕ) (logged : Logged (List ℕ)) → IsFailing work (record { index = index; item = item }) → logged.entry.call ≡ Fail index → logged.item ≡ item → IsOwnCall work lacks logged.entry.call logged.item
-own_fail work lacks index item logged failing call_is item_is =
-    subst (λ call. IsOwnCall work lacks call logged.item) (sym call_is) (subst (λ it. IsFailing work (record { index = index; item = it })) (sym item_is) failing)
 
 -- ---- what was called
 
@@ -184,3 +204,7 @@ met_further desk old new on met = record { known = begins_further desk.pass.know
 pub taken_first : {X : Type 0} (xs rest : List X) (x : X) → 0 < length xs → x ≡ slice_index_or xs 0 x → rest ≡ remove xs 0 → xs ≡ x ∷ rest
 taken_first [] rest x some is left = absurd (omega arith)
 taken_first (y ∷ ys) rest x some is left = λ i. sym is i ∷ sym left i
+
+pub nothing_left : {X : Type 0} (xs : List X) → length xs ≡ 0 → xs ≡ []
+nothing_left [] none = refl
+nothing_left (x ∷ xs) none = absurd (omega arith)

@@ -11,9 +11,8 @@ use native.Mathlib.Decide.{dec_lt}
 use Rattle.qtc_base.specs.Ranges.{in_range, times_covered}
 use Rattle.qtc_claim.specs.Claims.{Addition, clipped}
 use Rattle.qtc_claim.specs.Counter.{CounterId, IsGathered, PieceState, TallyState}
-use Rattle.qtc_events.specs.declared.calls.Call.{Call}
-use Rattle.qtc_events.specs.declared.calls.Call.TheVariants.{Start, Report, Account, Suspend, Resume, ReportSuspended, Cancel, Fail, Finish}
-use Rattle.qtc_store.specs.Batches.{end_of, in_order, is_covered, least_covered, most_end}
+use Rattle.qtc_store.specs.Batches.{end_of, in_order, is_covered, least_covered}
+use Rattle.qtc_base.specs.Limits.{most_end}
 use Rattle.qtc_store.specs.declared.batch.Batch.{Batch}
 use Rattle.qtc_store.specs.Stored.{batch_with}
 use Rattle.qtc_store.proofs.Offers.{is_covered-in_order}
@@ -27,7 +26,7 @@ use Rattle.qtc_shared.specs.Journals.{BeginsWith, calls_by, flags_at}
 use Rattle.qtc_shared.specs.Parts.{future_at}
 use Rattle.qtc_shared.specs.Passes.{IsHold, Meets, PassState, Stays}
 use Rattle.qtc_shared.proofs.Prefixes.{begins_further, saw_begins}
-use Rattle.qtc_kernel.specs.Crews.{Crew, IsBoard, IsCrew, IsOfPiece, is_report, is_strange, opening, ranges_by, reporter, shows_end, work_of}
+use Rattle.qtc_kernel.specs.Crews.{Crew, IsBoard, IsCrew, IsLeft, IsOfPiece, KnowsEnd, is_report, is_strange, opening, ranges_by, reporter, shows_end, work_of}
 use Rattle.qtc_kernel.specs.Runs.{IsBlock, range_of}
 use Rattle.qtc_kernel.specs.Working.{IsHandedIn, IsPieceOf, is_drop, range_in}
 use Rattle.qtc_kernel.specs.Workload.{Workload, first_bad, size_of, texts_in}
@@ -36,22 +35,11 @@ use Rattle.qtc_kernel.proofs.Counted.{IsPart}
 use Rattle.qtc_kernel.proofs.Finding.{found_within}
 use Rattle.qtc_kernel.proofs.Gathering.{among_cover}
 use Rattle.qtc_kernel.proofs.Kept.{texts-most, texts-whole}
-use Rattle.qtc_kernel.proofs.Passing.{Journal, begins_more, calls_by-append, contained_on, end_stays, own_call, ranges_by-append, strange_on}
+use Rattle.qtc_kernel.proofs.Passing.{Journal, begins_more, calls_by-append, contained_on, end_stays, no_batch, own_call, ranges_by-append, strange_on}
 use Rattle.qtc_kernel.proofs.Sound.{batch_in, batch_range}
 use Rattle.qtc_kernel.proofs.Tiled.{none_covers}
 
 -- ---- reports of one number
-
-pub no_batch : (call : Call) (values : List (List ℕ)) → is_report call ≡ false → batch_of call values ≡ []
-no_batch Start values h = refl
-no_batch (Report begin kept total) values h = absurd (cc)
-no_batch (Account total) values h = refl
-no_batch Suspend values h = refl
-no_batch Resume values h = refl
-no_batch ReportSuspended values h = refl
-no_batch Cancel values h = refl
-no_batch (Fail index) values h = refl
-no_batch Finish values h = refl
 
 -- where no report is of another number, the reports are those of this one
 pub none_strange : (number : ℕ) (journal : Journal) → list_any (is_strange number) journal ≡ false → reports_of journal ≡ reports_of (calls_by number journal)
@@ -119,6 +107,7 @@ module _ {F : Type 0} (value : F → List ℕ → ItemValue) (crew : Crew F) whe
         counter = board.counter;
         future = ap (λ (p : PassState (List ℕ)). p.of) is ∙ board.future;
         number = number ∙ board.number;
+        childless = ap (λ (p : PassState (List ℕ)). p.children) is ∙ board.childless;
         opened = begins_further opening pass.known pass'.known board.opened (subst (λ k. BeginsWith k pass.known) (sym known) (saw_begins pass.known journal pass.seen met.saw));
         reports = subst (All (IsOfPiece (work_of value crew) crew.counter.n crew.sizes tally.pieces)) (sym own) board.reports;
       }
@@ -142,6 +131,7 @@ module _ {F : Type 0} (value : F → List ℕ → ItemValue) (crew : Crew F) whe
     counter = of ∙ board.counter;
     future = board.future;
     number = board.number;
+    childless = board.childless;
     opened = board.opened;
     reports = subst (λ (all : List Addition). All (IsOfPiece (work_of value crew) crew.counter.n crew.sizes all) (calls_by pass.number pass.known)) (sym pieces)
         (All-weaker (IsOfPiece (work_of value crew) crew.counter.n crew.sizes tally.pieces) (IsOfPiece (work_of value crew) crew.counter.n crew.sizes (tally.pieces ++ more)) (of_pieces_more tally.pieces more) (calls_by pass.number pass.known) board.reports);
@@ -159,6 +149,39 @@ module _ {F : Type 0} (value : F → List ℕ → ItemValue) (crew : Crew F) whe
       let first = All-head P logged calls all in
       let rest = reports_gathered pieces calls (All-tail P logged calls all) in
       subst (λ batches. All Q (map range_of (batches ++ reports_of calls))) (sym first.reports) (All-cons Q (range_of first.batch) (map range_of (reports_of calls)) first.gathered rest)
+
+-- a piece that is gathered meets none that was gathered before
+pub not_both : (counter : CounterId) (tally tally' : TallyState) (piece : Addition) → tally' ≡ record tally { pieces = tally.pieces ++ piece ∷ [] } → IsGathered counter tally' → (index : ℕ) → (clipped counter.n piece).0 ≤ index → index < (clipped counter.n piece).1
+    → 1 ≤ times_covered (map (clipped counter.n) tally.pieces) index → ⊥
+not_both counter tally tally' piece tally_is gathered index low high covered =
+    let apart = gathered.pieces.once_below index in
+    let ranges_are : map (clipped counter.n) tally'.pieces ≡ map (clipped counter.n) tally.pieces ++ clipped counter.n piece ∷ [] =
+    ap (λ (t : TallyState). map (clipped counter.n) t.pieces) tally_is ∙ map-append (clipped counter.n) tally.pieces (piece ∷ [])
+    in
+    let all : times_covered (map (clipped counter.n) tally'.pieces) index ≡ times_covered (map (clipped counter.n) tally.pieces) index + cond (in_range index (clipped counter.n piece)) 1 0 =
+    ap (λ ranges. times_covered ranges index) ranges_are ∙ sum_by_push (λ (r : ℕ × ℕ). cond (in_range index r) 1 0) (map (clipped counter.n) tally.pieces) (clipped counter.n piece)
+    in
+    let here = inside index (clipped counter.n piece).0 (clipped counter.n piece).1 low high in
+    omega (arith, apart, all, here, covered)
+  where
+    inside : (index begin end : ℕ) → begin ≤ index → index < end → cond {A = ℕ} (in_range index (begin, end)) 1 0 ≡ 1
+    inside index begin end low high = grind (arith, nat_tests)
+
+-- no report of a gathered piece covers a piece that is gathered next
+pub left_gathered : {F : Type 0} (value : F → List ℕ → ItemValue) (crew : Crew F) (tally tally' : TallyState) (pass own : PassState (List ℕ)) (piece : Addition) → IsBoard value crew tally pass → own.known ≡ pass.known → KnowsEnd own
+    → tally' ≡ record tally { pieces = tally.pieces ++ piece ∷ [] } → IsGathered crew.counter tally' → IsLeft crew.counter.n (reporter crew) own piece
+left_gathered value crew tally tally' pass own piece board known ended tally_is gathered = record {
+  ended = ended;
+  uncovered = λ index low high.
+      ap (λ k. times_covered (ranges_by (reporter crew) k) index) known ∙ ap (λ number. times_covered (ranges_by number pass.known) index) (sym board.number)
+      ∙ none index low high (dec_lt 0 (times_covered (ranges_by pass.number pass.known) index));
+}
+  where
+    none : (index : ℕ) → (clipped crew.counter.n piece).0 ≤ index → index < (clipped crew.counter.n piece).1 → Dec (0 < times_covered (ranges_by pass.number pass.known) index) → times_covered (ranges_by pass.number pass.known) index ≡ 0
+    none index low high (yes more) =
+        absurd (not_both crew.counter tally tally' piece tally_is gathered index low high
+        (among_cover index (ranges_by pass.number pass.known) (map (clipped crew.counter.n) tally.pieces) (reports_gathered value crew tally.pieces (calls_by pass.number pass.known) board.reports) more))
+    none index low high (no few) = omega arith
 
 -- ---- what was handed in
 
@@ -253,6 +276,7 @@ module _ {F : Type 0} (value : F → List ℕ → ItemValue) (crew : Crew F) (fi
           counter = before.counter;
           future = ap (λ (p : PassState (List ℕ)). p.of) pass_is ∙ board.future;
           number = number ∙ board.number;
+          childless = ap (λ (p : PassState (List ℕ)). p.children) pass_is ∙ board.childless;
           opened = begins_further opening pass.known pass'.known board.opened (begins_further pass.known journal pass'.known (saw_begins pass.known journal pass.seen met.saw) (subst (λ k. BeginsWith k journal) (sym known) (begins_more journal (logged ∷ []))));
           reports = subst (All P) (sym own) (All-push P (calls_by pass.number pass.known) logged before.reports logged_is);
         }
@@ -265,15 +289,7 @@ module _ {F : Type 0} (value : F → List ℕ → ItemValue) (crew : Crew F) (fi
 
     in_both : (index : ℕ) → range.0 ≤ index → index < range.1 → 1 ≤ times_covered (map (clipped crew.counter.n) tally.pieces) index → ⊥
     in_both index low high covered =
-        let apart = gathered.pieces.once_below index in
-        let all : times_covered (map (clipped crew.counter.n) tally'.pieces) index ≡ times_covered (map (clipped crew.counter.n) tally.pieces) index + cond (in_range index (clipped crew.counter.n piece)) 1 0 =
-        ap (λ ranges. times_covered ranges index) ranges_are ∙ sum_by_push (λ (r : ℕ × ℕ). cond (in_range index r) 1 0) (map (clipped crew.counter.n) tally.pieces) (clipped crew.counter.n piece)
-        in
-        let here : cond {A = ℕ} (in_range index (clipped crew.counter.n piece)) 1 0 ≡ 1 = ap (λ (r : ℕ × ℕ). cond {A = ℕ} (in_range index r) 1 0) (sym range_is) ∙ inside index range.0 range.1 low high in
-        omega arith
-      where
-        inside : (index begin end : ℕ) → begin ≤ index → index < end → cond {A = ℕ} (in_range index (begin, end)) 1 0 ≡ 1
-        inside index begin end low high = grind (arith, nat_tests)
+        not_both crew.counter tally tally' piece tally_is gathered index (subst (λ (r : ℕ × ℕ). r.0 ≤ index) range_is low) (subst (λ (r : ℕ × ℕ). index < r.1) range_is high) covered
 
     -- an index of the piece can't be covered by a report of a gathered piece
     covered_strange : (index : ℕ) → least_covered (results_of future).batches batch.begin batch.total ≡ Some index → list_any (is_strange pass.number) journal ≡ true

@@ -27,8 +27,8 @@ use Rattle.qtc_future.specs.declared.replies.Failure.{Failure}
 use Rattle.qtc_future.proofs.Staying.{legal_store}
 use Rattle.qtc_shared.specs.Journals.{IsAllowed, IsJournal, calls_by, flags_at, is_makers}
 use Rattle.qtc_shared.specs.Parts.{Terms, future_at}
-use Rattle.qtc_kernel.specs.Crews.{IsOfPiece, IsOwnCall, ranges_by}
-use Rattle.qtc_kernel.specs.BroughtIn.{AreBroughtIn, DesksAreWorkedOut}
+use Rattle.qtc_kernel.specs.Crews.{IsFailedCall, IsOfPiece, IsOwnCall, is_own, ranges_by}
+use Rattle.qtc_kernel.specs.BroughtIn.{AreBroughtIn, DesksAreWorkedOut, IsUncovered}
 use Rattle.qtc_kernel.specs.Gathering.{AreOfPieces, NoneIsMissing, gathered_ranges}
 use Rattle.qtc_kernel.specs.Laws.{AreCalledOnce, IsFailing}
 use Rattle.qtc_kernel.specs.Runs.{HasTexts, IsBlock, range_of, reported_ranges, times_called}
@@ -53,12 +53,12 @@ record IsGood (work : Workload) (n : ℕ) (sizes : List ℕ) (pieces : List Addi
   block : IsBlock n sizes (range_of batch)
   gathered : Contains (map (clipped n) pieces) (range_of batch)
 
-module _ (work : Workload) (n : ℕ) (sizes : List ℕ) (pieces : List Addition) (workers : ℕ) where
+module _ (work : Workload) (n : ℕ) (sizes : List ℕ) (pieces : List Addition) (workers : ℕ) (called : List ℕ) where
   abbrev OfPiece : Logged (List ℕ) → Type 0
   OfPiece logged = IsOfPiece work n sizes pieces logged
 
   abbrev Own : Logged (List ℕ) → Type 0
-  Own logged = IsOwnCall work false logged.entry.call logged.item
+  Own logged = IsOwnCall work false called logged
 
   -- the call of a pass of the engine is a report of a gathered piece, or one that a desk may make
   pub record IsOurs (logged : Logged (List ℕ)) : Type 0 where
@@ -104,7 +104,7 @@ module _ (work : Workload) (n : ℕ) (sizes : List ℕ) (pieces : List Addition)
           let below : logged.entry.caller < workers + 1 = allowed.maker (ap is_makers is) in
           elim (ours.ours below) [
             | inl piece ↦ of_piece piece
-            | inr own ↦ absurd (subst (λ call. IsOwnCall work false call logged.item) is own)
+            | inr own ↦ absurd (false≢true (sym (ap is_own is) ∙ own.own))
           ]
       by Start is = none (ap (λ call. batch_of call logged.values) is)
       by (Account total) is = none (ap (λ call. batch_of call logged.values) is)
@@ -136,21 +136,21 @@ module _ (work : Workload) (n : ℕ) (sizes : List ℕ) (pieces : List Addition)
       by : Dec (logged.entry.caller < workers + 1) → logged.entry.call ≡ Cancel → workers + 1 ≤ logged.entry.caller
       by (yes below) is = elim (ours.ours below) [
         | inl piece ↦ absurd (not_piece logged Cancel is refl piece)
-        | inr own ↦ absurd (false≢true (subst (λ call. IsOwnCall work false call logged.item) is own))
+        | inr own ↦ absurd (false≢true (own.cancels is))
       ]
       by (no past) is = omega arith
 
   -- a fail is of a bad item
-  failing_of : (logged : Logged (List ℕ)) (failure : Failure) → IsOurs logged → IsAllowed (workers + 1) logged → failure_of_call logged.entry.call logged.item ≡ Some failure → IsFailing work failure
+  failing_of : (logged : Logged (List ℕ)) (failure : Failure) → IsOurs logged → IsAllowed (workers + 1) logged → failure_of_call logged.entry.call logged.item ≡ Some failure → IsFailedCall work called failure
   failing_of logged failure ours allowed e = by logged.entry.call refl e
     where
-      by : (call : Call) → logged.entry.call ≡ call → failure_of_call call logged.item ≡ Some failure → IsFailing work failure
+      by : (call : Call) → logged.entry.call ≡ call → failure_of_call call logged.item ≡ Some failure → IsFailedCall work called failure
       by (Fail index) is e =
           let below : logged.entry.caller < workers + 1 = allowed.maker (ap is_makers is) in
           let same : record { index = index; item = logged.item } ≡ failure = cc in
           elim (ours.ours below) [
             | inl piece ↦ absurd (not_piece logged (Fail index) is refl piece)
-            | inr own ↦ subst (IsFailing work) same (subst (λ call. IsOwnCall work false call logged.item) is own)
+            | inr own ↦ subst (IsFailedCall work called) same (own.fails index is)
           ]
       by Start is e = absurd (cc)
       by (Report begin kept total) is e = absurd (cc)
@@ -161,12 +161,12 @@ module _ (work : Workload) (n : ℕ) (sizes : List ℕ) (pieces : List Addition)
       by Cancel is e = absurd (cc)
       by Finish is e = absurd (cc)
 
-  all_failing : (journal : Journal) (failure : Failure) → All IsOurs journal → All (IsAllowed (workers + 1)) journal → failure_in journal ≡ Some failure → IsFailing work failure
+  all_failing : (journal : Journal) (failure : Failure) → All IsOurs journal → All (IsAllowed (workers + 1)) journal → failure_in journal ≡ Some failure → IsFailedCall work called failure
   all_failing [] failure ours allowed e = absurd (cc)
   all_failing (logged ∷ journal) failure ours allowed e =
       by (failure_of_call logged.entry.call logged.item) refl e (all_failing journal failure (All-tail IsOurs logged journal ours) (All-tail (IsAllowed (workers + 1)) logged journal allowed))
     where
-      by : (o : Option Failure) → failure_of_call logged.entry.call logged.item ≡ o → option_or o (failure_in journal) ≡ Some failure → (failure_in journal ≡ Some failure → IsFailing work failure) → IsFailing work failure
+      by : (o : Option Failure) → failure_of_call logged.entry.call logged.item ≡ o → option_or o (failure_in journal) ≡ Some failure → (failure_in journal ≡ Some failure → IsFailedCall work called failure) → IsFailedCall work called failure
       by (Some first) is e rest = failing_of logged failure (All-head IsOurs logged journal ours) (All-head (IsAllowed (workers + 1)) logged journal allowed) (is ∙ e)
       by None is e rest = rest e
 
@@ -176,7 +176,7 @@ module _ (work : Workload) (n : ℕ) (sizes : List ℕ) (pieces : List Addition)
       let below : logged.entry.caller < workers + 1 = allowed.maker (ap is_makers is) in
       elim (ours.ours below) [
         | inl piece ↦ not_piece logged Finish is refl piece
-        | inr own ↦ subst (λ call. IsOwnCall work false call logged.item) is own
+        | inr own ↦ false≢true (sym (ap is_own is) ∙ own.own)
       ]
 
 pub unfinished_after : (s : Standing) (call : Call) (reached : Reached) → call ≢ Finish → s.finished ≡ false → (after s call reached).finished ≡ false
@@ -240,6 +240,12 @@ apart_once index low (batch ∷ batches) apart = by (dec_lt index (end_of batch)
     by (yes less) rest = let none = apart_low index (end_of batch) batches apart.2 less in let few = most index batch.begin (end_of batch) in let all = one in omega arith
     by (no more) rest = let none = past index batch.begin (end_of batch) (omega arith) in let all = one in omega arith
 
+bounds_in : (index begin end : ℕ) → (nat_le begin index && nat_lt index end) ≡ true → (begin ≤ index) × (index < end)
+bounds_in index begin end e = (grind (arith, nat_tests), grind (arith, nat_tests))
+
+outside_of : (index begin end : ℕ) → (nat_le begin index && nat_lt index end) ≡ false → covers index (begin, end) ≡ 0
+outside_of index begin end e = grind (arith, nat_tests)
+
 -- ---- all together
 
 pub all_left : {X : Type 0} (P : X → Type 0) (xs ys : List X) → All P (xs ++ ys) → All P xs
@@ -269,15 +275,9 @@ good_at work n sizes pieces (batch ∷ batches) index all some =
     let head = All-head (IsGood work n sizes pieces) batch batches all in
     let parts = times-cons index (range_of batch) (map range_of batches) in
     elim (in_range index (range_of batch)) as (λ b. in_range index (range_of batch) ≡ b → is_bad (work.value (item_at work index)) ≡ false) [
-      | true ↦ λ e. let at = bounds index batch.begin (end_of batch) e in none_bad work (range_of batch) index head.good at.0 at.1
-      | false ↦ λ e. good_at work n sizes pieces batches index (All-tail (IsGood work n sizes pieces) batch batches all) (let none = outside index batch.begin (end_of batch) e in omega arith)
+      | true ↦ λ e. let at = bounds_in index batch.begin (end_of batch) e in none_bad work (range_of batch) index head.good at.0 at.1
+      | false ↦ λ e. good_at work n sizes pieces batches index (All-tail (IsGood work n sizes pieces) batch batches all) (let none = outside_of index batch.begin (end_of batch) e in omega arith)
     ] refl
-  where
-    bounds : (index begin end : ℕ) → (nat_le begin index && nat_lt index end) ≡ true → (begin ≤ index) × (index < end)
-    bounds index begin end e = (grind (arith, nat_tests), grind (arith, nat_tests))
-
-    outside : (index begin end : ℕ) → (nat_le begin index && nat_lt index end) ≡ false → covers index (begin, end) ≡ 0
-    outside index begin end e = grind (arith, nat_tests)
 
 not_cancel : Cancel ≡ Finish → ⊥
 not_cancel e = absurd (cc)
@@ -302,11 +302,11 @@ module _ (job : Workload) (shares : List ℕ) (terms : Terms) (journal : Journal
   allowed : All (IsAllowed (tally.of.workers + 1)) journal
   allowed = subst (λ makers. All (IsAllowed makers) journal) b.makers (all_left (IsAllowed terms.makers) journal (finish ∷ []) lawful.allowed)
 
-  ours : All (IsOurs job m shares b.pieces tally.of.workers) journal
-  ours = all_ours job m shares b.pieces tally.of.workers journal b.reports b.own
+  ours : All (IsOurs job m shares tally.pieces tally.of.workers calls) journal
+  ours = all_ours job m shares tally.pieces tally.of.workers calls journal b.reports b.own
 
-  good : All (IsGood job m shares b.pieces) (reports_of journal)
-  good = all_good job m shares b.pieces tally.of.workers journal ours allowed
+  good : All (IsGood job m shares tally.pieces) (reports_of journal)
+  good = all_good job m shares tally.pieces tally.of.workers calls journal ours allowed
 
   reports_are : reports_of whole ≡ reports_of journal
   reports_are =
@@ -326,34 +326,39 @@ module _ (job : Workload) (shares : List ℕ) (terms : Terms) (journal : Journal
       let none : times_covered (map range_of []) index ≡ 0 = refl in
       omega arith
 
-  of_pieces : All (Contains (map (clipped m) b.pieces)) (map range_of (reports_of journal))
+  of_pieces : All (Contains (map (clipped m) tally.pieces)) (map range_of (reports_of journal))
   of_pieces =
-      All-map (Contains (map (clipped m) b.pieces)) range_of (reports_of journal)
-      (All-weaker (IsGood job m shares b.pieces) (λ batch. Contains (map (clipped m) b.pieces) (range_of batch)) (λ batch is. is.gathered) (reports_of journal) good)
+      All-map (Contains (map (clipped m) tally.pieces)) range_of (reports_of journal)
+      (All-weaker (IsGood job m shares tally.pieces) (λ batch. Contains (map (clipped m) tally.pieces) (range_of batch)) (λ batch is. is.gathered) (reports_of journal) good)
 
   within : (index : ℕ) → m ≤ index → times_covered (map range_of (reports_of journal)) index ≡ 0
   within index past = by (dec_lt 0 (times_covered (map range_of (reports_of journal)) index))
     where
       by : Dec (0 < times_covered (map range_of (reports_of journal)) index) → times_covered (map range_of (reports_of journal)) index ≡ 0
       by (yes more) =
-          let some : 1 ≤ times_covered (map (clipped m) b.pieces) index = among_cover index (map range_of (reports_of journal)) (map (clipped m) b.pieces) of_pieces more in
-          let none = times_past index m b.pieces past in
+          let some : 1 ≤ times_covered (map (clipped m) tally.pieces) index = among_cover index (map range_of (reports_of journal)) (map (clipped m) tally.pieces) of_pieces more in
+          let none = times_past index m tally.pieces past in
           absurd (omega arith)
       by (no none) = omega arith
 
-  -- pieces that were given up are none of those that were reported
-  pieces_parts : (index : ℕ) → times_covered (map (clipped m) tally.pieces) index ≡ times_covered (map (clipped m) b.pieces) index + times_covered (map (clipped m) b.given_up) index
-  pieces_parts index =
-      ap (λ pieces. times_covered (map (clipped m) pieces) index) b.parts ∙ ap (λ ranges. times_covered ranges index) (map-append (clipped m) b.pieces b.given_up)
-      ∙ times-append index (map (clipped m) b.pieces) (map (clipped m) b.given_up)
+  -- what a report covers is in no claim that was left
+  none_left : (index : ℕ) (left : List Addition) → All (IsUncovered m journal) left → 1 ≤ times_covered (map range_of (reports_of journal)) index → times_covered (map (clipped m) left) index ≡ 0
+  none_left index [] all some = refl
+  none_left index (claim ∷ claims) all some =
+      let rest = none_left index claims (All-tail (IsUncovered m journal) claim claims all) some in
+      let parts = times-cons index (clipped m claim) (map (clipped m) claims) in
+      elim (in_range index (clipped m claim)) as (λ b. in_range index (clipped m claim) ≡ b → times_covered (map (clipped m) (claim ∷ claims)) index ≡ 0) [
+        | true ↦ λ e. let at = bounds_in index (clipped m claim).0 (clipped m claim).1 e in let none = All-head (IsUncovered m journal) claim claims all index at.0 at.1 in absurd (omega (arith, none, some))
+        | false ↦ λ e. let none = outside_of index (clipped m claim).0 (clipped m claim).1 e in omega (arith, none, rest, parts)
+      ] refl
 
   covered : (index : ℕ) → times_covered (map range_of (reports_of journal)) index ≤ times_called calls index
   covered index = by (dec_lt 0 (times_covered (map range_of (reports_of journal)) index)) (dec_lt index m)
     where
       by : Dec (0 < times_covered (map range_of (reports_of journal)) index) → Dec (index < m) → times_covered (map range_of (reports_of journal)) index ≤ times_called calls index
       by (yes more) (yes below) =
-          let some : 1 ≤ times_covered (map (clipped m) b.pieces) index = among_cover index (map range_of (reports_of journal)) (map (clipped m) b.pieces) of_pieces more in
-          let parts = pieces_parts index in
+          let some : 1 ≤ times_covered (map (clipped m) tally.pieces) index = among_cover index (map range_of (reports_of journal)) (map (clipped m) tally.pieces) of_pieces more in
+          let none = none_left index b.left b.uncovered more in
           let one = b.gathered.pieces.once_below index in
           let once = apart index in
           let sums = b.knows.pieces.1.once (covering index) in
@@ -377,9 +382,7 @@ module _ (job : Workload) (shares : List ℕ) (terms : Terms) (journal : Journal
     are : AreOfPieces tally (map range_of (reports_of journal))
     are = record {
       claims = All-weaker (λ claim. Contains (ranges_by tally.of.workers journal) (clipped m claim)) (λ claim. Contains (map range_of (reports_of journal)) (clipped m claim)) (λ claim. among_all tally.of.workers journal (clipped m claim)) (gave m claims) (b.reported going_then);
-      pieces = All-weaker (Contains (map (clipped m) b.pieces)) (Contains (gathered_ranges tally))
-          (λ range there. subst (λ ranges. Contains ranges range) (sym (ap (map (clipped m)) b.parts ∙ map-append (clipped m) b.pieces b.given_up)) (Contains-append_left (map (clipped m) b.pieces) (map (clipped m) b.given_up) range there))
-          (map range_of (reports_of journal)) of_pieces;
+      pieces = of_pieces;
     }
 
     none_missing : NoneIsMissing tally (map range_of (reports_of journal))
@@ -393,7 +396,7 @@ module _ (job : Workload) (shares : List ℕ) (terms : Terms) (journal : Journal
 
     is_whole : IsWhole job future calls
     is_whole = record {
-      good = none_fails job (λ index less. good_at job m shares b.pieces (reports_of journal) index good (let one = each index less in omega arith));
+      good = none_fails job (λ index less. good_at job m shares tally.pieces (reports_of journal) index good (let one = each index less in omega arith));
       called = λ index less. let one = each index less in let some = covered index in let most = once.once index in omega arith;
       tiled = subst (λ ranges. Tiles ranges (size_of job)) (sym ranges_are) (record { once = each; none = past_none });
       results = results_are;
@@ -403,7 +406,7 @@ module _ (job : Workload) (shares : List ℕ) (terms : Terms) (journal : Journal
         results_are =
             let store = legal_store future lawful.legal in
             let batches = reports_of whole in
-            let texts : All (HasTexts job) batches = subst (All (HasTexts job)) (sym reports_are) (All-weaker (IsGood job m shares b.pieces) (HasTexts job) (λ batch is. is.texts) (reports_of journal) good) in
+            let texts : All (HasTexts job) batches = subst (All (HasTexts job)) (sym reports_are) (All-weaker (IsGood job m shares tally.pieces) (HasTexts job) (λ batch is. is.texts) (reports_of journal) good) in
             let all = shown job 0 (in_order batches) store.apart (all_in_order (HasTexts job) batches texts) (omega arith)
             (λ index low less. is_covered-in_order batches index ∙ one_covers batches index (let one = each index less in let is : times_covered (map range_of batches) index ≡ times_covered (map range_of (reports_of journal)) index = ap (λ bs. times_covered (map range_of bs) index) reports_are in omega arith))
             (λ index past. is_covered-in_order batches index ∙ none_covers batches index (ap (λ bs. times_covered (map range_of bs) index) reports_are ∙ past_none index past)) in
@@ -419,14 +422,17 @@ module _ (job : Workload) (shares : List ℕ) (terms : Terms) (journal : Journal
           ∙ ap (λ list. Start ∷ list) (map-append (λ (logged : Logged (List ℕ)). logged.entry.call) b.opened.later (finish ∷ []) ∙ ap (λ call. map (λ (logged : Logged (List ℕ)). logged.entry.call) b.opened.later ++ call ∷ []) is_finish);
     };
     once = once;
-    texts = subst (All (HasTexts job)) (sym reports_are) (All-weaker (IsGood job m shares b.pieces) (HasTexts job) (λ batch is. is.texts) (reports_of journal) good);
+    texts = subst (All (HasTexts job)) (sym reports_are) (All-weaker (IsGood job m shares tally.pieces) (HasTexts job) (λ batch is. is.texts) (reports_of journal) good);
     apart = λ index. subst (λ ranges. times_covered ranges index ≤ 1) (sym ranges_are) (apart index);
     within = λ index past. ap (λ ranges. times_covered ranges index) ranges_are ∙ within index (let is = b.indexes in omega arith);
     blocks = subst (λ n. All (IsBlock n shares) (reported_ranges future)) b.indexes
         (subst (All (IsBlock m shares)) (sym ranges_are)
-        (All-map (IsBlock m shares) range_of (reports_of journal) (All-weaker (IsGood job m shares b.pieces) (λ batch. IsBlock m shares (range_of batch)) (λ batch is. is.block) (reports_of journal) good)));
+        (All-map (IsBlock m shares) range_of (reports_of journal) (All-weaker (IsGood job m shares tally.pieces) (λ batch. IsBlock m shares (range_of batch)) (λ batch is. is.block) (reports_of journal) good)));
     covered = λ index. subst (λ ranges. times_covered ranges index ≤ times_called calls index) (sym ranges_are) (covered index);
-    failing = λ failure e. all_failing job m shares b.pieces tally.of.workers journal failure ours allowed (failure_before failure e);
+    good = subst (All (λ range. first_bad job range ≡ None)) (sym ranges_are)
+        (All-map (λ range. first_bad job range ≡ None) range_of (reports_of journal) (All-weaker (IsGood job m shares tally.pieces) (λ batch. first_bad job (range_of batch) ≡ None) (λ batch is. is.good) (reports_of journal) good));
+    failing = λ failure e. (failed failure e).failing;
+    failed_call = λ failure e. let some = (failed failure e).called in let most = once.once failure.index in omega (arith, some, most);
     canceled = subst (λ makers. All (IsOfOthers makers) whole) (sym b.makers) others;
     whole = is_whole;
   }
@@ -438,10 +444,13 @@ module _ (job : Workload) (shares : List ℕ) (terms : Terms) (journal : Journal
           by (Some f) = refl
           by None = ap (λ call. failure_of_call call finish.item) is_finish
 
+      failed : (failure : Failure) → failure_in whole ≡ Some failure → IsFailedCall job calls failure
+      failed failure e = all_failing job m shares tally.pieces tally.of.workers calls journal failure ours allowed (failure_before failure e)
+
       others : All (IsOfOthers (tally.of.workers + 1)) whole
       others =
           All-push (IsOfOthers (tally.of.workers + 1)) journal finish
-          (All-weaker (IsOurs job m shares b.pieces tally.of.workers) (IsOfOthers (tally.of.workers + 1)) (others_cancel job m shares b.pieces tally.of.workers) journal ours)
+          (All-weaker (IsOurs job m shares tally.pieces tally.of.workers calls) (IsOfOthers (tally.of.workers + 1)) (others_cancel job m shares tally.pieces tally.of.workers calls) journal ours)
           (record { others = λ is. absurd (not_cancel (sym is ∙ is_finish)) })
 
 pub desks_are_worked_out : DesksAreWorkedOut

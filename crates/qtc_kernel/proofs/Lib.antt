@@ -11,6 +11,7 @@ pub mod OneBlock
 pub mod Turns
 pub mod Gathering
 pub mod Passing
+pub mod Looking
 pub mod Boards
 pub mod AtDesks
 pub mod Turning

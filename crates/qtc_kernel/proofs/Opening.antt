@@ -1,13 +1,14 @@
 -- A new engine, and its desks.
-use Rattle.std.proofs.Common.{◌≡◌, ℕ, zero, suc, ◌+◌, ◌<◌, ◌≤◌, ◌==◌, Bool, false, List, [], ◌∷◌, ◌++◌, Option, None, Some, IfSome, All, length, slice_get, option_to_list, inl, refl, ap, sym, ◌∙◌, subst, arith, length-append}
+use Rattle.std.proofs.Common.{◌≡◌, ℕ, zero, suc, ◌+◌, ◌<◌, ◌≤◌, ◌==◌, Bool, false, List, [], ◌∷◌, ◌++◌, Option, Some, IfSome, All, length, slice_get, option_to_list, inl, refl, ap, sym, ◌∙◌, subst, arith, length-append}
 use Rattle.std.specs.Prelude.{Contains}
 use Rattle.qtc_kernel.specs.Runs.{times_called}
 use Rattle.std.proofs.Math.Nat.{mod-eq_of_lt}
 use Rattle.std.proofs.lemmas.Bool.Decides.{nat_tests}
 use Rattle.std.proofs.lemmas.List.Elements.{All-cons, All-filter, All-head, All-nil, All-tail}
+use Rattle.qtc_active.specs.Count.{BadgeState, CountId, IsNew as IsNewCount, new_badge}
 use Rattle.qtc_claim.specs.Claims.{IsWithinLimits, clipped, new_worker}
 use Rattle.qtc_claim.specs.Counter.{CounterId, IsNew, SeatState, TallyState}
-use Rattle.qtc_events.specs.declared.calls.Call.TheVariants.{Start}
+use Rattle.qtc_events.specs.declared.calls.Call.TheVariants.{Cancel, Fail, Start}
 use Rattle.qtc_events.specs.declared.entries.Reached.{Reached}
 use Rattle.qtc_future.specs.Answering.{IsStep}
 use Rattle.qtc_future.specs.Future.{Future, Logged, new_future}
@@ -19,7 +20,7 @@ use Rattle.qtc_shared.specs.Journals.{BeginsWith, calls_by}
 use Rattle.qtc_shared.specs.Parts.{Terms}
 use Rattle.qtc_shared.specs.Passes.{FutureId, IsShared, PassState, pass_at}
 use Rattle.qtc_shared.proofs.Prefixes.{begins_same}
-use Rattle.qtc_kernel.specs.Crews.{Crew, DeskState, IsBoard, IsCrew, IsDesk, IsEngineOf, IsNewDesk, IsOfPiece, IsOpened, IsOwnCall, IsPlanned, crew_with, desks_with, opening, plan_terms, ranges_by, reporter, value_by, work_of}
+use Rattle.qtc_kernel.specs.Crews.{Crew, DeskState, IsBoard, IsCrew, IsDesk, IsEngineOf, IsLeft, IsNewDesk, IsOfPiece, IsOpened, IsOwnCall, IsPlanned, crew_with, desks_with, opening, plan_terms, ranges_by, reporter, value_by, work_of}
 use Rattle.qtc_kernel.specs.Driving.{is_filter, own_entry}
 use Rattle.qtc_kernel.specs.Workload.{Suits}
 use Rattle.qtc_kernel.specs.declared.kinds.Kind.{Kind}
@@ -106,6 +107,7 @@ module _ {F : Type 0} (value : F → List ℕ → ItemValue) (called : F → Lis
     counter = ap (λ (t : TallyState). t.of) tally_is;
     future = ap (λ (p : PassState (List ℕ)). p.of) pass_is;
     number = ap (λ (p : PassState (List ℕ)). p.number) pass_is;
+    childless = ap (λ (p : PassState (List ℕ)). p.children) pass_is;
     opened = subst (λ k. BeginsWith k opening) (sym (ap (λ (p : PassState (List ℕ)). p.known) pass_is)) (begins_same opening);
     reports =
         let none : calls_by pass.number pass.known ≡ [] = ap (λ (p : PassState (List ℕ)). calls_by p.number p.known) pass_is ∙ none_own (reporter crew) some in
@@ -121,10 +123,9 @@ module _ {F : Type 0} (value : F → List ℕ → ItemValue) (called : F → Lis
   desk_at number function = record {
     seat = seat_at number;
     pass = pass_at crew.future number opening;
+    badge = new_badge crew.active;
     function = function;
     turn = 0;
-    given_up = None;
-    is_in = false;
     lacks = false;
   }
 
@@ -133,17 +134,21 @@ module _ {F : Type 0} (value : F → List ℕ → ItemValue) (called : F → Lis
     seated = record {
       counter = refl;
       future = refl;
+      badge = refl;
+      childless = refl;
       numbered = refl;
       below = below;
       valued = alike;
       opened = begins_same opening;
-      own =
-          let P : Logged (List ℕ) → Type 0 = λ logged. IsOwnCall (work_of value crew) false logged.entry.call logged.item in
-          All-filter (λ (logged : Logged (List ℕ)). logged.entry.caller == number) P opening (All-cons P (record { entry = own_entry Start; values = []; item = [] }) [] tt (All-nil P));
       turn = sym (mod-eq_of_lt some);
       sizes = refl;
     };
-    given_up = tt;
+    own =
+        let P = IsOwnCall (work_of value crew) false (called function) in
+        All-filter (λ (logged : Logged (List ℕ)). logged.entry.caller == number) P opening (All-cons P (record { entry = own_entry Start; values = []; item = [] }) [] start_own (All-nil P));
+    left = [];
+    one = omega arith;
+    left_are = All-nil (IsLeft crew.counter.n (reporter crew) (pass_at crew.future number opening));
     worked = record {
       whole = [];
       parts = refl;
@@ -152,6 +157,15 @@ module _ {F : Type 0} (value : F → List ℕ → ItemValue) (called : F → Lis
     };
     handed = inl (All-nil (λ claim. Contains (ranges_by (reporter crew) opening) (clipped crew.counter.n claim)));
   }
+    where
+      start_own : IsOwnCall (work_of value crew) false (called function) (record { entry = own_entry Start; values = []; item = [] })
+      start_own = record { own = refl; fails = λ index e. absurd (not_fail index e); cancels = λ e. absurd (not_cancel e) }
+        where
+          not_fail : (index : ℕ) → Start ≡ Fail index → ⊥
+          not_fail index e = absurd (cc)
+
+          not_cancel : Start ≡ Cancel → ⊥
+          not_cancel e = absurd (cc)
 
   -- as many desks as functions, each new
   pub record AreFresh (k : ℕ) (desks : List (DeskState F)) (count : ℕ) : Type 0 where
@@ -159,52 +173,58 @@ module _ {F : Type 0} (value : F → List ℕ → ItemValue) (called : F → Lis
     pub each : All (IsDesk value called crew) desks
     pub fresh : (i : ℕ) → i < count → IfSome (slice_get desks i) (IsNewDesk crew (k + i))
 
-  pub desks_fresh : (k : ℕ) (seats : List SeatState) (passes : List (PassState (List ℕ))) (functions : List F) → 1 ≤ length crew.sizes → length seats ≡ length functions → length passes ≡ length functions
+  pub desks_fresh : (k : ℕ) (seats : List SeatState) (passes : List (PassState (List ℕ))) (badges : List BadgeState) (functions : List F) → 1 ≤ length crew.sizes → length seats ≡ length functions → length passes ≡ length functions → length badges ≡ length functions
       → k + length functions ≤ crew.counter.workers
       → ((i : ℕ) → i < length functions → slice_get seats i ≡ Some (seat_at (k + i))) → ((i : ℕ) → i < length functions → slice_get passes i ≡ Some (pass_at crew.future (k + i) opening))
       → All (λ function. value function ≡ value_by value crew.functions) functions → All (λ function. called function ≡ []) functions
-      → AreFresh k (desks_with seats passes functions) (length functions)
-  desks_fresh k [] [] [] some seats_long passes_long few seats_are passes_are alike fresh = record { count_is = refl; each = All-nil (IsDesk value called crew); fresh = λ i within. absurd (omega arith) }
-  desks_fresh k [] passes (function ∷ functions) some seats_long passes_long few seats_are passes_are alike fresh = absurd (omega arith)
-  desks_fresh k (seat ∷ seats) passes [] some seats_long passes_long few seats_are passes_are alike fresh = absurd (omega arith)
-  desks_fresh k (seat ∷ seats) [] (function ∷ functions) some seats_long passes_long few seats_are passes_are alike fresh = absurd (omega arith)
-  desks_fresh k [] (pass ∷ passes) [] some seats_long passes_long few seats_are passes_are alike fresh = absurd (omega arith)
-  desks_fresh k (seat ∷ seats) (pass ∷ passes) (function ∷ functions) some seats_long passes_long few seats_are passes_are alike fresh =
+      → ((i : ℕ) → i < length functions → slice_get crew.functions (k + i) ≡ slice_get functions i) → All (λ badge. badge ≡ new_badge crew.active) badges
+      → AreFresh k (desks_with seats passes badges functions) (length functions)
+  desks_fresh k [] passes badges [] some seats_long passes_long badges_long few seats_are passes_are alike fresh there out = record { count_is = refl; each = All-nil (IsDesk value called crew); fresh = λ i within. absurd (omega arith) }
+  desks_fresh k [] passes badges (function ∷ functions) some seats_long passes_long badges_long few seats_are passes_are alike fresh there out = absurd (omega arith)
+  desks_fresh k (seat ∷ seats) passes badges [] some seats_long passes_long badges_long few seats_are passes_are alike fresh there out = absurd (omega arith)
+  desks_fresh k (seat ∷ seats) [] badges (function ∷ functions) some seats_long passes_long badges_long few seats_are passes_are alike fresh there out = absurd (omega arith)
+  desks_fresh k (seat ∷ seats) (pass ∷ passes) [] (function ∷ functions) some seats_long passes_long badges_long few seats_are passes_are alike fresh there out = absurd (omega arith)
+  desks_fresh k (seat ∷ seats) (pass ∷ passes) (badge ∷ badges) (function ∷ functions) some seats_long passes_long badges_long few seats_are passes_are alike fresh there out =
       let P : F → Type 0 = λ function. value function ≡ value_by value crew.functions in
       let Q : F → Type 0 = λ function. called function ≡ [] in
       let seat_is : seat ≡ seat_at k = same_some seat (seat_at k) (seats_are 0 (omega arith) ∙ ap (λ j. Some (seat_at j)) (omega arith)) in
       let pass_is : pass ≡ pass_at crew.future k opening = same_some pass (pass_at crew.future k opening) (passes_are 0 (omega arith) ∙ ap (λ j. Some (pass_at crew.future j opening)) (omega arith)) in
-      let rest = desks_fresh (k + 1) seats passes functions some (omega arith) (omega arith) (omega arith)
+      let B : BadgeState → Type 0 = λ badge. badge ≡ new_badge crew.active in
+      let badge_is = All-head B badge badges out in
+      let rest = desks_fresh (k + 1) seats passes badges functions some (omega arith) (omega arith) (omega arith) (omega arith)
       (λ i within. seats_are (suc i) (omega arith) ∙ ap (λ j. Some (seat_at j)) (omega arith)) (λ i within. passes_are (suc i) (omega arith) ∙ ap (λ j. Some (pass_at crew.future j opening)) (omega arith))
-      (All-tail P function functions alike) (All-tail Q function functions fresh) in
+      (All-tail P function functions alike) (All-tail Q function functions fresh)
+      (λ i within. ap (slice_get crew.functions) (omega arith) ∙ there (suc i) (omega arith)) (All-tail B badge badges out) in
       let first = new_desk k function some (omega arith) (All-head P function functions alike) (All-head Q function functions fresh) in
-      let is : desks_with (seat ∷ seats) (pass ∷ passes) (function ∷ functions) ≡ desk_at k function ∷ desks_with seats passes functions =
-      λ i. record { seat = seat_is i; pass = pass_is i; function = function; turn = 0; given_up = None; is_in = false; lacks = false } ∷ desks_with seats passes functions
+      let is : desks_with (seat ∷ seats) (pass ∷ passes) (badge ∷ badges) (function ∷ functions) ≡ desk_at k function ∷ desks_with seats passes badges functions =
+      λ i. record { seat = seat_is i; pass = pass_is i; badge = badge_is i; function = function; turn = 0; lacks = false } ∷ desks_with seats passes badges functions
       in
       let count = rest.count_is in
       record {
         count_is = omega arith;
-        each = subst (All (IsDesk value called crew)) (sym is) (All-cons (IsDesk value called crew) (desk_at k function) (desks_with seats passes functions) first rest.each);
+        each = subst (All (IsDesk value called crew)) (sym is) (All-cons (IsDesk value called crew) (desk_at k function) (desks_with seats passes badges functions) first rest.each);
         fresh = λ i within. subst (λ (desks : List (DeskState F)). IfSome (slice_get desks i) (IsNewDesk crew (k + i))) (sym is) (at i (omega arith) rest.fresh);
       }
     where
-      at : (i : ℕ) → i < length functions + 1 → ((j : ℕ) → j < length functions → IfSome (slice_get (desks_with seats passes functions) j) (IsNewDesk crew (k + 1 + j)))
-          → IfSome (slice_get (desk_at k function ∷ desks_with seats passes functions) i) (IsNewDesk crew (k + i))
-      at zero within others = subst (λ j. IsNewDesk crew j (desk_at k function)) (omega arith) (record { seat = refl; pass = refl; given_up = refl; out = refl; lacks = refl })
-      at (suc i) within others = subst (λ j. IfSome (slice_get (desks_with seats passes functions) i) (IsNewDesk crew j)) (omega arith) (others i (omega arith))
+      at : (i : ℕ) → i < length functions + 1 → ((j : ℕ) → j < length functions → IfSome (slice_get (desks_with seats passes badges functions) j) (IsNewDesk crew (k + 1 + j)))
+          → IfSome (slice_get (desk_at k function ∷ desks_with seats passes badges functions) i) (IsNewDesk crew (k + i))
+      at zero within others = subst (λ j. IsNewDesk crew j (desk_at k function)) (omega arith) (record { seat = refl; pass = refl; function = ap (slice_get crew.functions) (omega arith) ∙ there 0 (omega arith); badge = refl; lacks = refl })
+      at (suc i) within others = subst (λ j. IfSome (slice_get (desks_with seats passes badges functions) i) (IsNewDesk crew j)) (omega arith) (others i (omega arith))
 
 -- ---- the engine
 
 module _ {F : Type 0} (value : F → List ℕ → ItemValue) (called : F → List ℕ) (kind : Kind) (items : List (List ℕ)) (workers : ℕ) (sizes : List ℕ) (functions : List F) (planned : IsPlanned value called kind items workers sizes functions) (cancel_after suspend_after : ℕ)
     (future : FutureId) (passes : List (PassState (List ℕ))) (reporting caller : PassState (List ℕ)) (opened : IsOpened (plan_terms kind cancel_after suspend_after workers) workers future passes reporting caller)
-    (counter : CounterId) (seats : List SeatState) (tally : TallyState) (new : IsNew (length items) workers counter seats tally) where
+    (counter : CounterId) (seats : List SeatState) (tally : TallyState) (new : IsNew (length items) workers counter seats tally)
+    (active : CountId) (badges : List BadgeState) (counted : IsNewCount workers active badges) where
   abbrev made : Crew F
-  made = crew_with counter future items functions sizes
+  made = crew_with counter future active items functions sizes
 
   pub made_fits : IsCrew value made
   made_fits = record {
     indexes = new.indexes;
     limits = subst (λ n. IsWithinLimits n counter.workers) (sym new.indexes) (subst (IsWithinLimits (length items)) (sym new.for_workers) planned.limits);
+    active = counted.for_workers ∙ sym new.for_workers;
     makers = ap (λ (terms : Terms). terms.makers) opened.terms_are ∙ ap (λ k. k + 1) (sym new.for_workers);
     sizes = planned.sizes_are;
     suits = subst (λ filter. Suits filter (work_of value made)) (sym (ap (λ (terms : Terms). terms.filter) opened.terms_are)) planned.suits;
@@ -213,27 +233,28 @@ module _ {F : Type 0} (value : F → List ℕ → ItemValue) (called : F → Lis
   pub made_board : IsBoard value made tally reporting
   made_board = board_opens value called made tally reporting (let one = planned.limits.one in let is = new.for_workers in omega arith) new.nothing (opened.reporting_is ∙ ap (λ k. pass_at future k opening) (sym new.for_workers))
 
-  fresh : AreFresh value called made 0 (desks_with seats passes functions) (length functions)
+  fresh : AreFresh value called made 0 (desks_with seats passes badges functions) (length functions)
   fresh =
       let count = planned.count in
       let seats_count = new.count in
       let passes_count = opened.count in
       let are = new.for_workers in
-      desks_fresh value called made 0 seats passes functions planned.sizes_are.some (omega arith) (omega arith) (omega arith)
+      let badges_count = counted.one_each in
+      desks_fresh value called made 0 seats passes badges functions planned.sizes_are.some (omega arith) (omega arith) (omega arith) (omega arith)
       (λ i within. new.each i (omega arith) ∙ ap (λ j. Some (seat_at value called made j)) (omega arith))
       (λ i within. opened.each i (omega arith) ∙ ap (λ j. Some (pass_at future j opening)) (omega arith))
-      planned.alike planned.fresh
+      planned.alike planned.fresh (λ i within. ap (slice_get functions) (omega arith)) counted.all_out
 
-  pub made_engine : (crew : Crew F) (desks : List (DeskState F)) → crew ≡ made → desks ≡ desks_with seats passes functions → IsEngineOf value called items (plan_terms kind cancel_after suspend_after workers) sizes functions crew desks caller
+  pub made_engine : (crew : Crew F) (desks : List (DeskState F)) → crew ≡ made → desks ≡ desks_with seats passes badges functions → IsEngineOf value called items (plan_terms kind cancel_after suspend_after workers) sizes functions crew desks caller
   made_engine crew desks crew_is desks_are =
-      let is : IsEngineOf value called items (plan_terms kind cancel_after suspend_after workers) sizes functions made (desks_with seats passes functions) caller = record {
+      let is : IsEngineOf value called items (plan_terms kind cancel_after suspend_after workers) sizes functions made (desks_with seats passes badges functions) caller = record {
         items_are = refl;
         functions_are = refl;
         sizes_are = refl;
         terms_are = opened.terms_are;
         fits = made_fits;
         desks_are = record { count = fresh.count_is ∙ planned.count ∙ sym new.for_workers; each = fresh.each };
-        fresh = λ number within. let count = fresh.count_is in subst (λ j. IfSome (slice_get (desks_with seats passes functions) number) (IsNewDesk made j)) (omega arith) (fresh.fresh number (omega arith));
+        fresh = λ number within. let count = fresh.count_is in subst (λ j. IfSome (slice_get (desks_with seats passes badges functions) number) (IsNewDesk made j)) (omega arith) (fresh.fresh number (omega arith));
         pass_is = opened.caller_is ∙ ap (λ k. pass_at future (k + 1) opening) (sym new.for_workers);
       } in
       subst (λ (c : Crew F). IsEngineOf value called items (plan_terms kind cancel_after suspend_after workers) sizes functions c desks caller) (sym crew_is)

@@ -1,5 +1,5 @@
 -- What the desks of an engine keep, put together once all of them were brought in.
-use Rattle.std.proofs.Common.{◌≡◌, ◌⊎◌, ℕ, ◌+◌, ◌<◌, ◌≤◌, Bool, true, false, not, ◌||◌, ◌&&◌, ◌==◌, nat_lt, List, [], ◌∷◌, ◌++◌, All, cond, map, length, fold, if◌then◌else◌, inl, inr, refl, ap, sym, ◌∙◌, subst, arith, append_assoc, length-append}
+use Rattle.std.proofs.Common.{◌≡◌, ◌⊎◌, ℕ, ◌+◌, ◌<◌, ◌≤◌, Bool, true, false, not, ◌||◌, ◌&&◌, ◌==◌, nat_lt, List, [], ◌∷◌, ◌++◌, All, Option, Some, option_to_list, cond, map, length, fold, if◌then◌else◌, inl, inr, refl, ap, sym, ◌∙◌, subst, arith, append_assoc, length-append}
 use Rattle.std.specs.Prelude.{Contains}
 use Rattle.std.specs.List.{list_any}
 use native.Mathlib.Decide.{dec_lt}
@@ -17,7 +17,7 @@ use Rattle.qtc_events.specs.Journal.{after_entry}
 use Rattle.qtc_events.specs.declared.calls.Call.{Call}
 use Rattle.qtc_events.specs.declared.calls.Call.TheVariants.{Start, Report, Account, Suspend, Resume, ReportSuspended, Cancel, Fail, Finish}
 use Rattle.qtc_events.specs.declared.entries.Reached.{Reached}
-use Rattle.qtc_future.specs.Future.{Future, Logged, entries_of, flags_of}
+use Rattle.qtc_future.specs.Future.{Future, Logged, entries_of, flags_of, reports_of}
 use Rattle.qtc_future.specs.Steps.{Effect, by_row, logged_by, stays, with_call}
 use Rattle.qtc_future.specs.declared.requests.Request.TheVariants.{Finish as AskFinish}
 use Rattle.qtc_future.proofs.Growing.{flags-push}
@@ -27,16 +27,19 @@ use Rattle.qtc_shared.specs.Parts.{Terms, future_at}
 use Rattle.qtc_shared.specs.Laws.{KnownIsKept}
 use Rattle.qtc_shared.specs.Passes.{FutureId, IsHold, Makes, Meets, PassState, Stays}
 use Rattle.qtc_shared.proofs.Prefixes.{begins_further, begins_same, saw_begins}
-use Rattle.qtc_kernel.specs.Crews.{AreReported, Crew, DeskState, HasMetEnd, IsCrew, IsDesk, IsOfPiece, IsOwnCall, addition_in, given_at, is_report, is_strange, opening, ranges_by, reporter, shows_end, work_of}
-use Rattle.qtc_kernel.specs.BroughtIn.{AreBroughtIn}
-use Rattle.qtc_kernel.specs.Endings.{AreGathered, AreSettled, IsMet, calls_at, given_up_at, with_desk, workers_at}
+use Rattle.qtc_kernel.specs.Crews.{AreReported, Crew, DeskState, HasMetEnd, IsCrew, IsDesk, IsLeft, IsOfPiece, IsOwnCall, given_at, is_own, is_report, is_strange, opening, ranges_by, reporter, shows_end, work_of}
+use Rattle.qtc_kernel.specs.BroughtIn.{AreBroughtIn, IsUncovered}
+use Rattle.qtc_kernel.specs.Endings.{AreGathered, AreSettled, IsMet, functions_at, with_seat, workers_at}
 use Rattle.qtc_kernel.specs.Gathering.{IsClaimed}
-use Rattle.qtc_kernel.specs.Runs.{times_called}
-use Rattle.qtc_kernel.specs.WorkedOut.{IsWorkedOut}
+use Rattle.qtc_kernel.specs.Runs.{range_of, times_called}
+use Rattle.qtc_kernel.specs.WorkedOut.{AreContinued, Continues, IsWorkedOut, calls_of}
 use Rattle.qtc_kernel.specs.Workload.{Workload}
+use Rattle.qtc_kernel.proofs.AtDesks.{own_more}
+use Rattle.qtc_kernel.proofs.Boards.{none_strange as none_strange_reports}
 use Rattle.qtc_kernel.proofs.Counting.{calls-append, times-append, times-cons}
 use Rattle.qtc_kernel.proofs.Ending.{IsOurs, all_left, all_ours, desks_are_worked_out, not_finish, tail_by, unfinished_after}
-use Rattle.qtc_kernel.proofs.Passing.{Journal, begins_more, calls_by-append, contained_on, met_end, stays_known, strange_on}
+use Rattle.qtc_kernel.proofs.Turning.{continues_same}
+use Rattle.qtc_kernel.proofs.Passing.{Journal, begins_more, calls_by-append, contained_on, met_end, reports_rest, stays_known, strange_on}
 
 -- ---- the finish
 
@@ -88,31 +91,31 @@ module _ (old between new : PassState (List ℕ)) (effect : Bool) (finish : IsHo
 
 -- ---- whose calls they are
 
-module _ (work : Workload) (n : ℕ) (sizes : List ℕ) (pieces : List Addition) (workers : ℕ) where
-  unfinished_from : (s : Standing) (journal : Journal) → s.finished ≡ false → All (IsOurs work n sizes pieces workers) journal → All (IsAllowed (workers + 1)) journal → (fold after_entry s (entries_of journal)).finished ≡ false
+module _ (work : Workload) (n : ℕ) (sizes : List ℕ) (pieces : List Addition) (workers : ℕ) (calls : List ℕ) where
+  unfinished_from : (s : Standing) (journal : Journal) → s.finished ≡ false → All (IsOurs work n sizes pieces workers calls) journal → All (IsAllowed (workers + 1)) journal → (fold after_entry s (entries_of journal)).finished ≡ false
   unfinished_from s [] none ours allowed = none
   unfinished_from s (logged ∷ journal) none ours allowed =
       unfinished_from (after_entry s logged.entry) journal
       (unfinished_after s logged.entry.call logged.entry.reached
-      (not_finish work n sizes pieces workers logged (All-head (IsOurs work n sizes pieces workers) logged journal ours) (All-head (IsAllowed (workers + 1)) logged journal allowed)) none)
-      (All-tail (IsOurs work n sizes pieces workers) logged journal ours) (All-tail (IsAllowed (workers + 1)) logged journal allowed)
+      (not_finish work n sizes pieces workers calls logged (All-head (IsOurs work n sizes pieces workers calls) logged journal ours) (All-head (IsAllowed (workers + 1)) logged journal allowed)) none)
+      (All-tail (IsOurs work n sizes pieces workers calls) logged journal ours) (All-tail (IsAllowed (workers + 1)) logged journal allowed)
 
-  unfinished : (journal : Journal) → All (IsOurs work n sizes pieces workers) journal → All (IsAllowed (workers + 1)) journal → (flags_at journal).finished ≡ false
+  unfinished : (journal : Journal) → All (IsOurs work n sizes pieces workers calls) journal → All (IsAllowed (workers + 1)) journal → (flags_at journal).finished ≡ false
   unfinished journal ours allowed = unfinished_from new_flags journal refl ours allowed
 
   abbrev Own : Logged (List ℕ) → Type 0
-  Own logged = IsOwnCall work false logged.entry.call logged.item
+  Own logged = IsOwnCall work false calls logged
 
-  own_no_report : (call : Call) (item : List ℕ) → IsOwnCall work false call item → is_report call ≡ false
-  own_no_report Start item own = refl
-  own_no_report (Report begin kept total) item own = absurd own
-  own_no_report (Account total) item own = refl
-  own_no_report Suspend item own = refl
-  own_no_report Resume item own = refl
-  own_no_report ReportSuspended item own = refl
-  own_no_report Cancel item own = refl
-  own_no_report (Fail index) item own = refl
-  own_no_report Finish item own = refl
+  own_no_report : (call : Call) → is_own call ≡ true → is_report call ≡ false
+  own_no_report Start own = refl
+  own_no_report (Report begin kept total) own = absurd (cc)
+  own_no_report (Account total) own = refl
+  own_no_report Suspend own = refl
+  own_no_report Resume own = refl
+  own_no_report ReportSuspended own = refl
+  own_no_report Cancel own = refl
+  own_no_report (Fail index) own = refl
+  own_no_report Finish own = refl
 
   report_makers : (call : Call) → is_report call ≡ true → is_makers call ≡ true
   report_makers (Report begin kept total) e = refl
@@ -136,7 +139,7 @@ module _ (work : Workload) (n : ℕ) (sizes : List ℕ) (pieces : List Addition)
       same caller is = grind (arith, nat_tests)
 
       by : Dec (logged.entry.caller < workers) → is_report logged.entry.call ≡ true → not (logged.entry.caller == workers) ≡ false
-      by (yes less) e = absurd (false≢true (sym (own_no_report logged.entry.call logged.item (own less)) ∙ e))
+      by (yes less) e = absurd (false≢true (sym (own_no_report logged.entry.call (own less).own) ∙ e))
       by (no more) e = let below : logged.entry.caller < workers + 1 = allowed.maker (report_makers logged.entry.call e) in same logged.entry.caller (omega arith)
 
   -- one number alone reports
@@ -145,7 +148,7 @@ module _ (work : Workload) (n : ℕ) (sizes : List ℕ) (pieces : List Addition)
   none_is_strange (logged ∷ journal) own allowed =
       both (is_strange workers logged) (list_any (is_strange workers) journal)
       (not_strange logged (λ below. All-head Own logged (calls_by logged.entry.caller journal) (subst (All Own) (here logged.entry.caller refl) (own logged.entry.caller below))) (All-head (IsAllowed (workers + 1)) logged journal allowed))
-      (none_is_strange journal (λ number below. tail_by work n sizes pieces workers Own number logged journal (own number below)) (All-tail (IsAllowed (workers + 1)) logged journal allowed))
+      (none_is_strange journal (λ number below. tail_by work n sizes pieces workers calls Own number logged journal (own number below)) (All-tail (IsAllowed (workers + 1)) logged journal allowed))
     where
       both : (a b : Bool) → a ≡ false → b ≡ false → (a || b) ≡ false
       both a b h k = grind arith
@@ -173,90 +176,109 @@ module _ {F : Type 0} (value : F → List ℕ → ItemValue) (called : F → Lis
   given_claims : (desk : DeskState F) (desks : List (DeskState F)) → gave crew.counter.n (claims_of (workers_at (desk ∷ desks))) ≡ given_at crew.counter.n desk ++ gave crew.counter.n (claims_of (workers_at desks))
   given_claims desk desks = filter-append (λ (addition : Addition). nat_lt addition.begin crew.counter.n) desk.seat.worker.claims (claims_of (workers_at desks))
 
-  most : (index : ℕ) (desks : List (DeskState F)) → All (IsDesk value called crew) desks → times_called (calls_at called desks) index ≤ times_covered (map (clipped crew.counter.n) (claims_of (workers_at desks))) index
+  -- the calls of their functions
+  abbrev pub calls_at : List (DeskState F) → List ℕ
+  calls_at desks = calls_of called (functions_at desks)
+
+  most : (index : ℕ) (desks : List (DeskState F)) → All (IsDesk value called crew) desks → times_called (calls_at desks) index ≤ times_covered (map (clipped crew.counter.n) (claims_of (workers_at desks))) index
   most index [] all = omega arith
   most index (desk ∷ desks) all =
       let rest = most index desks (All-tail (IsDesk value called crew) desk desks all) in
       let own = (All-head (IsDesk value called crew) desk desks all).worked.most index in
       let some = times_gave crew.counter.n index desk.seat.worker.claims in
-      let calls = calls-append index (called desk.function) (calls_at called desks) in
+      let calls = calls-append index (called desk.function) (calls_at desks) in
       let claims = times_both crew.counter.n index desk.seat.worker.claims (claims_of (workers_at desks)) in
       omega arith
 
-  least : (index : ℕ) (desks : List (DeskState F)) → All (IsDesk value called crew) desks → times_covered (map (clipped crew.counter.n) (gave crew.counter.n (claims_of (workers_at desks)))) index
-      ≤ times_called (calls_at called desks) index + times_covered (map (clipped crew.counter.n) (given_up_at desks)) index
-  least index [] all = omega arith
-  least index (desk ∷ desks) all =
-      let n = crew.counter.n in
-      let worked = (All-head (IsDesk value called crew) desk desks all).worked in
-      let rest = least index desks (All-tail (IsDesk value called crew) desk desks all) in
-      let own = worked.least index in
-      let parts : times_covered (map (clipped n) (given_at n desk)) index ≡ times_covered (map (clipped n) worked.whole) index + times_covered (map (clipped n) (addition_in desk.given_up)) index =
-      ap (λ claims. times_covered (map (clipped n) claims) index) worked.parts ∙ times_both n index worked.whole (addition_in desk.given_up)
-      in
-      let all_given : times_covered (map (clipped n) (gave n (claims_of (workers_at (desk ∷ desks))))) index ≡ times_covered (map (clipped n) (given_at n desk)) index + times_covered (map (clipped n) (gave n (claims_of (workers_at desks)))) index =
-      ap (λ claims. times_covered (map (clipped n) claims) index) (given_claims desk desks) ∙ times_both n index (given_at n desk) (gave n (claims_of (workers_at desks)))
-      in
-      let calls = calls-append index (called desk.function) (calls_at called desks) in
-      let ups = times_both n index (addition_in desk.given_up) (given_up_at desks) in
-      omega arith
+  -- each of them called no more than all
+  each_calls : (desks : List (DeskState F)) (calls : List ℕ) → ((index : ℕ) → times_called (calls_at desks) index ≤ times_called calls index) → All (λ desk. (index : ℕ) → times_called (called desk.function) index ≤ times_called calls index) desks
+  each_calls [] calls all = All-nil (λ desk. (index : ℕ) → times_called (called desk.function) index ≤ times_called calls index)
+  each_calls (desk ∷ desks) calls all =
+      All-cons (λ d. (index : ℕ) → times_called (called d.function) index ≤ times_called calls index) desk desks
+      (λ index. let parts = calls-append index (called desk.function) (calls_at desks) in let most = all index in omega (arith, parts, most))
+      (each_calls desks calls (λ index. let parts = calls-append index (called desk.function) (calls_at desks) in let most = all index in omega (arith, parts, most)))
+
+  -- the last one's calls may stand first
+  pub calls_turned : (first : DeskState F) (others : List (DeskState F)) (index : ℕ) → times_called (calls_at (others ++ first ∷ [])) index ≡ times_called (calls_at (first ∷ others)) index
+  calls_turned first [] index = refl
+  calls_turned first (desk ∷ desks) index =
+      let rest = calls_turned first desks index in
+      let left = calls-append index (called desk.function) (calls_at (desks ++ first ∷ [])) in
+      let one = calls-append index (called first.function) (calls_at desks) in
+      let two = calls-append index (called first.function) (calls_at (desk ∷ desks)) in
+      let three = calls-append index (called desk.function) (calls_at desks) in
+      omega (arith, rest, left, one, two, three)
 
   -- ---- a desk that was brought in
 
-  abbrev OwnCall : Logged (List ℕ) → Type 0
-  OwnCall logged = IsOwnCall (work_of value crew) false logged.entry.call logged.item
-
   -- what it knows and what it met is in the journal, with its own calls
-  record IsIn (journal : Journal) (desk : DeskState F) : Type 0 where
+  record IsIn (calls : List ℕ) (journal : Journal) (desk : DeskState F) : Type 0 where
     desk_is : IsDesk value called crew desk
-    own : All OwnCall (calls_by desk.seat.worker.number journal)
+    own : All (IsOwnCall (work_of value crew) false calls) (calls_by desk.seat.worker.number journal)
     begins : BeginsWith journal desk.pass.known
     ends : HasMetEnd desk.pass → shows_end (flags_at journal) ≡ true
 
-  own_known : (desk : DeskState F) → IsDesk value called crew desk → desk.lacks ≡ false → All OwnCall (calls_by desk.pass.number desk.pass.known)
-  own_known desk is lacks = subst (λ b. All (λ logged. IsOwnCall (work_of value crew) b logged.entry.call logged.item) (calls_by desk.pass.number desk.pass.known)) lacks is.seated.own
+  -- a desk that wanted no memory, and whose calls are among these
+  record IsSettling (calls : List ℕ) (desk : DeskState F) : Type 0 where
+    desk_is : IsDesk value called crew desk
+    lacks : desk.lacks ≡ false
+    more : (index : ℕ) → times_called (called desk.function) index ≤ times_called calls index
 
-  own_met : (desk : DeskState F) (journal : Journal) → IsDesk value called crew desk → desk.lacks ≡ false → Meets desk.pass journal → All OwnCall (calls_by desk.seat.worker.number journal)
-  own_met desk journal is lacks met = subst (λ k. All OwnCall (calls_by k journal)) is.seated.numbered (subst (All OwnCall) (sym met.own) (own_known desk is lacks))
+  are_settling : (calls : List ℕ) (desks : List (DeskState F)) → All (IsDesk value called crew) desks → All (λ desk. desk.lacks ≡ false) desks → All (λ desk. (index : ℕ) → times_called (called desk.function) index ≤ times_called calls index) desks
+      → All (IsSettling calls) desks
+  are_settling calls [] are lacks more = All-nil (IsSettling calls)
+  are_settling calls (desk ∷ desks) are lacks more =
+      let Lacks : DeskState F → Type 0 = λ d. d.lacks ≡ false in
+      let More : DeskState F → Type 0 = λ d. (index : ℕ) → times_called (called d.function) index ≤ times_called calls index in
+      All-cons (IsSettling calls) desk desks (record { desk_is = All-head (IsDesk value called crew) desk desks are; lacks = All-head Lacks desk desks lacks; more = All-head More desk desks more })
+      (are_settling calls desks (All-tail (IsDesk value called crew) desk desks are) (All-tail Lacks desk desks lacks) (All-tail More desk desks more))
 
-  first_in : (desk : DeskState F) (journal : Journal) → IsDesk value called crew desk → desk.lacks ≡ false → Meets desk.pass journal → IsIn journal desk
-  first_in desk journal is lacks met = record {
-    desk_is = is;
-    own = own_met desk journal is lacks met;
+  own_met : (calls : List ℕ) (desk : DeskState F) (journal : Journal) → IsSettling calls desk → Meets desk.pass journal → All (IsOwnCall (work_of value crew) false calls) (calls_by desk.seat.worker.number journal)
+  own_met calls desk journal is met =
+      subst (λ k. All (IsOwnCall (work_of value crew) false calls) (calls_by k journal)) is.desk_is.seated.numbered
+      (subst (All (IsOwnCall (work_of value crew) false calls)) (sym met.own)
+      (All-weaker (IsOwnCall (work_of value crew) desk.lacks (called desk.function)) (IsOwnCall (work_of value crew) false calls)
+      (λ logged. own_more (work_of value crew) desk.lacks false (called desk.function) calls logged (λ wants. sym is.lacks ∙ wants) is.more) (calls_by desk.pass.number desk.pass.known) is.desk_is.own))
+
+  first_in : (calls : List ℕ) (desk : DeskState F) (journal : Journal) → IsSettling calls desk → Meets desk.pass journal → IsIn calls journal desk
+  first_in calls desk journal is met = record {
+    desk_is = is.desk_is;
+    own = own_met calls desk journal is met;
     begins = saw_begins desk.pass.known journal desk.pass.seen met.saw;
     ends = met_end desk.pass.known journal desk.pass.seen met.saw;
   }
 
-  other_in : (desk : DeskState F) (first journal known : Journal) → IsDesk value called crew desk → desk.lacks ≡ false → IsMet first desk → BeginsWith journal first → Meets desk.pass known → BeginsWith known journal → IsIn journal desk
-  other_in desk first journal known is lacks met grew later begins =
+  other_in : (calls : List ℕ) (desk : DeskState F) (first journal known : Journal) → IsSettling calls desk → IsMet first desk → BeginsWith journal first → Meets desk.pass known → BeginsWith known journal → IsIn calls journal desk
+  other_in calls desk first journal known is met grew later begins =
       let before : BeginsWith journal desk.pass.known = begins_further desk.pass.known first journal met.known grew in
       let number = desk.seat.worker.number in
+      let P = IsOwnCall (work_of value crew) false calls in
       record {
-        desk_is = is;
-        own = all_left OwnCall (calls_by number journal) (calls_by number begins.later)
-            (subst (All OwnCall) (ap (calls_by number) begins.is ∙ calls_by-append number journal begins.later) (own_met desk known is lacks later));
+        desk_is = is.desk_is;
+        own = all_left P (calls_by number journal) (calls_by number begins.later)
+            (subst (All P) (ap (calls_by number) begins.is ∙ calls_by-append number journal begins.later) (own_met calls desk known is later));
         begins = before;
         ends = met_end desk.pass.known journal desk.pass.seen (subst (Saw desk.pass.known journal) (sym met.unseen) before);
       }
 
-  others_in : (desks : List (DeskState F)) (first journal known : Journal) → All (IsDesk value called crew) desks → All (λ desk. desk.lacks ≡ false) desks → All (IsMet first) desks → BeginsWith journal first
-      → All (λ desk. Meets desk.pass known) desks → BeginsWith known journal → All (IsIn journal) desks
-  others_in [] first journal known are lacks met grew later begins = All-nil (IsIn journal)
-  others_in (desk ∷ desks) first journal known are lacks met grew later begins =
-      let Lacks : DeskState F → Type 0 = λ d. d.lacks ≡ false in
+  others_in : (calls : List ℕ) (desks : List (DeskState F)) (first journal known : Journal) → All (IsSettling calls) desks → All (IsMet first) desks → BeginsWith journal first
+      → All (λ desk. Meets desk.pass known) desks → BeginsWith known journal → All (IsIn calls journal) desks
+  others_in calls [] first journal known are met grew later begins = All-nil (IsIn calls journal)
+  others_in calls (desk ∷ desks) first journal known are met grew later begins =
       let Later : DeskState F → Type 0 = λ d. Meets d.pass known in
-      All-cons (IsIn journal) desk desks
-      (other_in desk first journal known (All-head (IsDesk value called crew) desk desks are) (All-head Lacks desk desks lacks) (All-head (IsMet first) desk desks met) grew (All-head Later desk desks later) begins)
-      (others_in desks first journal known (All-tail (IsDesk value called crew) desk desks are) (All-tail Lacks desk desks lacks) (All-tail (IsMet first) desk desks met) grew (All-tail Later desk desks later) begins)
+      All-cons (IsIn calls journal) desk desks
+      (other_in calls desk first journal known (All-head (IsSettling calls) desk desks are) (All-head (IsMet first) desk desks met) grew (All-head Later desk desks later) begins)
+      (others_in calls desks first journal known (All-tail (IsSettling calls) desk desks are) (All-tail (IsMet first) desk desks met) grew (All-tail Later desk desks later) begins)
 
   -- whoever has a number among them made just its own calls
-  own_all : (journal : Journal) (number : ℕ) (desks : List (DeskState F)) → All (IsIn journal) desks → 1 ≤ times_numbered number (workers_at desks) → All OwnCall (calls_by number journal)
-  own_all journal number [] all some = absurd (omega arith)
-  own_all journal number (desk ∷ desks) all some =
-      elim (desk.seat.worker.number == number) as (λ b. (desk.seat.worker.number == number) ≡ b → All OwnCall (calls_by number journal)) [
-        | true ↦ λ e. subst (λ k. All OwnCall (calls_by k journal)) (equal desk.seat.worker.number number e) (All-head (IsIn journal) desk desks all).own
+  own_all : (calls : List ℕ) (journal : Journal) (number : ℕ) (desks : List (DeskState F)) → All (IsIn calls journal) desks → 1 ≤ times_numbered number (workers_at desks) → All (IsOwnCall (work_of value crew) false calls) (calls_by number journal)
+  own_all calls journal number [] all some = absurd (omega arith)
+  own_all calls journal number (desk ∷ desks) all some =
+      let P = IsOwnCall (work_of value crew) false calls in
+      elim (desk.seat.worker.number == number) as (λ b. (desk.seat.worker.number == number) ≡ b → All P (calls_by number journal)) [
+        | true ↦ λ e. subst (λ k. All P (calls_by k journal)) (equal desk.seat.worker.number number e) (All-head (IsIn calls journal) desk desks all).own
         | false ↦ λ e.
-            own_all journal number desks (All-tail (IsIn journal) desk desks all)
+            own_all calls journal number desks (All-tail (IsIn calls journal) desk desks all)
             (let counts = sum_by-cons (λ (worker : Worker). cond (worker.number == number) 1 0) desk.seat.worker (workers_at desks) in
             let none : cond {A = ℕ} (desk.seat.worker.number == number) 1 0 ≡ 0 = ap (λ b. cond {A = ℕ} b 1 0) e in
             omega arith)
@@ -265,19 +287,57 @@ module _ {F : Type 0} (value : F → List ℕ → ItemValue) (called : F → Lis
       equal : (a b : ℕ) → (a == b) ≡ true → a ≡ b
       equal a b e = grind (arith, nat_tests)
 
+  -- what they left, of which no report covers an index
+  record AreLeft (journal : Journal) (desks : List (DeskState F)) : Type 0 where
+    left : List Addition
+    uncovered : All (IsUncovered crew.counter.n journal) left
+    least : (index : ℕ) → times_covered (map (clipped crew.counter.n) (gave crew.counter.n (claims_of (workers_at desks)))) index
+        ≤ times_called (calls_at desks) index + times_covered (map (clipped crew.counter.n) left) index
+
+  are_left : (terms : Terms) (calls : List ℕ) (journal : Journal) (desks : List (DeskState F)) → IsJournal terms journal → reports_of journal ≡ reports_of (calls_by (reporter crew) journal) → All (IsIn calls journal) desks → AreLeft journal desks
+  are_left terms calls journal [] lawful plain all = record { left = []; uncovered = All-nil (IsUncovered crew.counter.n journal); least = λ index. omega arith }
+  are_left terms calls journal (desk ∷ desks) lawful plain all =
+      let n = crew.counter.n in
+      let is = All-head (IsIn calls journal) desk desks all in
+      let others = are_left terms calls journal desks lawful plain (All-tail (IsIn calls journal) desk desks all) in
+      let own = is.desk_is.left in
+      record {
+        left = own ++ others.left;
+        uncovered = All-append (IsUncovered n journal) own others.left
+            (All-weaker (IsLeft n (reporter crew) desk.pass) (IsUncovered n journal)
+            (λ claim left index low high.
+            ap (λ batches. times_covered (map range_of batches) index) plain
+            ∙ ap (λ ranges. times_covered ranges index) (reports_rest terms desk.pass.known journal is.begins lawful left.ended (reporter crew))
+            ∙ left.uncovered index low high) own is.desk_is.left_are)
+            others.uncovered;
+        least = λ index.
+            let worked = is.desk_is.worked in
+            let rest = others.least index in
+            let least = worked.least index in
+            let parts : times_covered (map (clipped n) (given_at n desk)) index ≡ times_covered (map (clipped n) worked.whole) index + times_covered (map (clipped n) own) index =
+            ap (λ claims. times_covered (map (clipped n) claims) index) worked.parts ∙ times_both n index worked.whole own
+            in
+            let all_given : times_covered (map (clipped n) (gave n (claims_of (workers_at (desk ∷ desks))))) index ≡ times_covered (map (clipped n) (given_at n desk)) index + times_covered (map (clipped n) (gave n (claims_of (workers_at desks)))) index =
+            ap (λ claims. times_covered (map (clipped n) claims) index) (given_claims desk desks) ∙ times_both n index (given_at n desk) (gave n (claims_of (workers_at desks)))
+            in
+            let calls' = calls-append index (called desk.function) (calls_at desks) in
+            let lefts = times_both n index own others.left in
+            omega (arith, rest, least, parts, all_given, calls', lefts);
+      }
+
   -- where nothing was canceled, each claim was reported
-  all_reported : (journal : Journal) (desks : List (DeskState F)) → All (IsIn journal) desks → (shows_end (flags_at journal) ≡ true → ⊥) → list_any (is_strange (reporter crew)) journal ≡ false
+  all_reported : (calls : List ℕ) (journal : Journal) (desks : List (DeskState F)) → All (IsIn calls journal) desks → (shows_end (flags_at journal) ≡ true → ⊥) → list_any (is_strange (reporter crew)) journal ≡ false
       → AreReported crew.counter.n (reporter crew) (gave crew.counter.n (claims_of (workers_at desks))) journal
-  all_reported journal [] all going none = All-nil (λ claim. Contains (ranges_by (reporter crew) journal) (clipped crew.counter.n claim))
-  all_reported journal (desk ∷ desks) all going none =
+  all_reported calls journal [] all going none = All-nil (λ claim. Contains (ranges_by (reporter crew) journal) (clipped crew.counter.n claim))
+  all_reported calls journal (desk ∷ desks) all going none =
       subst (λ claims. AreReported crew.counter.n (reporter crew) claims journal) (sym (given_claims desk desks))
-      (All-append Reported (given_at crew.counter.n desk) (gave crew.counter.n (claims_of (workers_at desks))) one (all_reported journal desks (All-tail (IsIn journal) desk desks all) going none))
+      (All-append Reported (given_at crew.counter.n desk) (gave crew.counter.n (claims_of (workers_at desks))) one (all_reported calls journal desks (All-tail (IsIn calls journal) desk desks all) going none))
     where
       Reported : Addition → Type 0
       Reported claim = Contains (ranges_by (reporter crew) journal) (clipped crew.counter.n claim)
 
-      is : IsIn journal desk
-      is = All-head (IsIn journal) desk desks all
+      is : IsIn calls journal desk
+      is = All-head (IsIn calls journal) desk desks all
 
       one : All Reported (given_at crew.counter.n desk)
       one = elim is.desk_is.handed [
@@ -286,10 +346,29 @@ module _ {F : Type 0} (value : F → List ℕ → ItemValue) (called : F → Lis
         | inr (inr strange) ↦ absurd (false≢true (sym none ∙ strange_on (reporter crew) desk.pass.known journal is.begins strange))
       ]
 
+-- ---- functions that come back
+
+continued_last : {F : Type 0} (value : F → List ℕ → ItemValue) (called : F → List ℕ) (functions : List F) (before after : F) → Continues value called before after → AreContinued value called (functions ++ before ∷ []) (functions ++ after ∷ [])
+continued_last value called [] before after continues = (continues, tt)
+continued_last value called (function ∷ functions) before after continues = (continues_same value called function, continued_last value called functions before after continues)
+
+-- the last desk was worked on with, and its function comes last
+pub handed_back : {F : Type 0} (value : F → List ℕ → ItemValue) (called : F → List ℕ) (desks left others : List (DeskState F)) (taken : Option (DeskState F)) (before after : DeskState F) → desks ≡ left ++ option_to_list taken → taken ≡ Some before
+    → functions_at others ≡ functions_at left → Continues value called before.function after.function → AreContinued value called (functions_at desks) (functions_at (others ++ after ∷ []))
+handed_back value called desks left others taken before after desks_are taken_is same continues =
+    let all : functions_at desks ≡ functions_at left ++ before.function ∷ [] =
+    ap functions_at (desks_are ∙ ap (λ o. left ++ option_to_list o) taken_is) ∙ map-append (λ desk. desk.function) left (before ∷ [])
+    in
+    let back : functions_at (others ++ after ∷ []) ≡ functions_at left ++ after.function ∷ [] =
+    map-append (λ desk. desk.function) others (after ∷ []) ∙ ap (λ functions. functions ++ after.function ∷ []) same
+    in
+    subst (λ functions. AreContinued value called functions (functions_at (others ++ after ∷ []))) (sym all)
+    (subst (AreContinued value called (functions_at left ++ before.function ∷ [])) (sym back) (continued_last value called (functions_at left) before.function after.function continues))
+
 -- ---- the tally
 
 -- a desk is gathered, and then the others
-module _ {F : Type 0} (first : DeskState F) (others : List (DeskState F)) (journal : Journal) (before one all last : TallyState) (gathers : one ≡ with_desk first.seat first.given_up before) (gathered : AreGathered journal one all others) (same : last ≡ all) where
+module _ {F : Type 0} (first : DeskState F) (others : List (DeskState F)) (journal : Journal) (before one all last : TallyState) (gathers : one ≡ with_seat first.seat before) (gathered : AreGathered journal one all others) (same : last ≡ all) where
   pub of_all : last.of ≡ before.of
   of_all = ap (λ (t : TallyState). t.of) same ∙ gathered.of ∙ ap (λ (t : TallyState). t.of) gathers
 
@@ -298,16 +377,15 @@ module _ {F : Type 0} (first : DeskState F) (others : List (DeskState F)) (journ
       ap (λ (t : TallyState). t.workers) same ∙ gathered.workers ∙ ap (λ (t : TallyState). t.workers ++ workers_at others) gathers
       ∙ append_assoc before.workers (first.seat.worker ∷ []) (workers_at others)
 
-  pub pieces_all : last.pieces ≡ before.pieces ++ given_up_at (first ∷ others)
-  pieces_all =
-      ap (λ (t : TallyState). t.pieces) same ∙ gathered.pieces ∙ ap (λ (t : TallyState). t.pieces ++ given_up_at others) gathers
-      ∙ append_assoc before.pieces (addition_in first.given_up) (given_up_at others)
+  pub pieces_all : last.pieces ≡ before.pieces
+  pieces_all = ap (λ (t : TallyState). t.pieces) same ∙ gathered.pieces ∙ ap (λ (t : TallyState). t.pieces) gathers
 
 -- ---- all together
 
 module _ {F : Type 0} (value : F → List ℕ → ItemValue) (called : F → List ℕ) (crew : Crew F) (fits : IsCrew value crew) (first : DeskState F) (others : List (DeskState F)) (known : Journal) (s : AreSettled value crew first others known)
     (count : length (first ∷ others) ≡ crew.counter.workers) (first_is : IsDesk value called crew first) (others_are : All (IsDesk value called crew) others) (met : All (IsMet first.pass.known) others)
-    (over : (crew.counter.n ≤ first.seat.worker.seen) ⊎ HasMetEnd first.pass) (no_lack : first.lacks ≡ false) (none_lack : All (λ desk. desk.lacks ≡ false) others) where
+    (over : (crew.counter.n ≤ first.seat.worker.seen) ⊎ HasMetEnd first.pass) (no_lack : first.lacks ≡ false) (none_lack : All (λ desk. desk.lacks ≡ false) others)
+    (calls : List ℕ) (calls_are : (index : ℕ) → times_called calls index ≡ times_called (calls_at value called crew (first ∷ others)) index) where
   abbrev work : Workload
   work = work_of value crew
 
@@ -338,14 +416,17 @@ module _ {F : Type 0} (value : F → List ℕ → ItemValue) (called : F → Lis
     | inr more ↦ subst (λ k. BeginsWith k s.journal) (sym more) (begins_more s.journal (logged ∷ []))
   ]
 
-  are_in : All (IsIn value called crew s.journal) desks
-  are_in =
-      let one = first_in value called crew first s.journal first_is no_lack s.met in
-      All-cons (IsIn value called crew s.journal) first others one
-      (others_in value called crew others first.pass.known s.journal known others_are none_lack met one.begins s.others_met begins)
-
   are_desks : All (IsDesk value called crew) desks
   are_desks = All-cons (IsDesk value called crew) first others first_is others_are
+
+  are_in : All (IsIn value called crew calls s.journal) desks
+  are_in =
+      let P = IsSettling value called crew calls in
+      let Lacks : DeskState F → Type 0 = λ d. d.lacks ≡ false in
+      let all = are_settling value called crew calls desks are_desks (All-cons Lacks first others no_lack none_lack) (each_calls value called crew desks calls (λ index. let are = calls_are index in omega (arith, are))) in
+      let one = first_in value called crew calls first s.journal (All-head P first others all) s.met in
+      All-cons (IsIn value called crew calls s.journal) first others one
+      (others_in value called crew calls others first.pass.known s.journal known (All-tail P first others all) met one.begins s.others_met begins)
 
   -- ---- the tally
 
@@ -378,12 +459,12 @@ module _ {F : Type 0} (value : F → List ℕ → ItemValue) (called : F → Lis
 
   -- ---- whose calls they are
 
-  own : (number : ℕ) → number < crew.counter.workers → All (OwnCall value called crew) (calls_by number s.journal)
+  own : (number : ℕ) → number < crew.counter.workers → All (IsOwnCall work false calls) (calls_by number s.journal)
   own number below =
       let one : times_numbered number (workers_at desks) ≡ 1 =
       ap (times_numbered number) (sym workers_are) ∙ knows.numbers number (subst (λ (c : CounterId). number < c.workers) (sym tally_of) below)
       in
-      own_all value called crew s.journal number desks are_in (omega (arith, one))
+      own_all value called crew calls s.journal number desks are_in (omega (arith, one))
 
   reports : All (IsOfPiece work n crew.sizes s.before.pieces) (calls_by (reporter crew) s.journal)
   reports =
@@ -397,14 +478,14 @@ module _ {F : Type 0} (value : F → List ℕ → ItemValue) (called : F → Lis
   allowed : All (IsAllowed (crew.counter.workers + 1)) s.journal
   allowed = subst (λ makers. All (IsAllowed makers) s.journal) (ap (λ (t : Terms). t.makers) terms_are ∙ fits.makers) s.met.lawful.allowed
 
-  ours : All (IsOurs work n crew.sizes s.before.pieces crew.counter.workers) s.journal
-  ours = all_ours work n crew.sizes s.before.pieces crew.counter.workers s.journal reports own
+  ours : All (IsOurs work n crew.sizes s.before.pieces crew.counter.workers calls) s.journal
+  ours = all_ours work n crew.sizes s.before.pieces crew.counter.workers calls s.journal reports own
 
   open_yet : (flags_at s.journal).finished ≡ false
-  open_yet = unfinished work n crew.sizes s.before.pieces crew.counter.workers s.journal ours allowed
+  open_yet = unfinished work n crew.sizes s.before.pieces crew.counter.workers calls s.journal ours allowed
 
   none_strange : list_any (is_strange (reporter crew)) s.journal ≡ false
-  none_strange = none_is_strange work n crew.sizes s.before.pieces crew.counter.workers s.journal own allowed
+  none_strange = none_is_strange work n crew.sizes s.before.pieces crew.counter.workers calls s.journal own allowed
 
   -- where nothing was canceled, no end stands
   going : (flags_at s.journal).canceled ≡ false → shows_end (flags_at s.journal) ≡ true → ⊥
@@ -425,44 +506,47 @@ module _ {F : Type 0} (value : F → List ℕ → ItemValue) (called : F → Lis
       subst (λ (c : CounterId). c.n ≤ first.seat.worker.seen) (sym tally_of)
           (elim over [
             | inl past ↦ past
-            | inr ended ↦ absurd (going not_canceled ((All-head (IsIn value called crew s.journal) first others are_in).ends ended))
+            | inr ended ↦ absurd (going not_canceled ((All-head (IsIn value called crew calls s.journal) first others are_in).ends ended))
           ]),
     );
   }
 
-  brought_in : (calls : List ℕ) → calls ≡ called first.function ++ calls_at called others → AreBroughtIn work crew.sizes crew.future.terms s.journal s.tally calls
-  brought_in calls calls_are = record {
+  left : AreLeft value called crew s.journal desks
+  left = are_left value called crew terms calls s.journal desks s.met.lawful (none_strange_reports (reporter crew) s.journal none_strange) are_in
+
+  brought_in : AreBroughtIn work crew.sizes crew.future.terms s.journal s.tally calls
+  brought_in = record {
     indexes = ap (λ (c : CounterId). c.n) tally_of ∙ fits.indexes;
     makers = fits.makers ∙ ap (λ (c : CounterId). c.workers + 1) (sym tally_of);
-    opened = begins_further opening first.pass.known s.journal first_is.seated.opened (All-head (IsIn value called crew s.journal) first others are_in).begins;
-    pieces = s.before.pieces;
+    opened = begins_further opening first.pass.known s.journal first_is.seated.opened (All-head (IsIn value called crew calls s.journal) first others are_in).begins;
     own = λ number below. own number (subst (λ (c : CounterId). number < c.workers) tally_of below);
-    reports = subst (λ (c : CounterId). All (IsOfPiece work c.n crew.sizes s.before.pieces) (calls_by c.workers s.journal)) (sym tally_of) reports;
+    reports = subst (λ (c : CounterId). All (IsOfPiece work c.n crew.sizes s.tally.pieces) (calls_by c.workers s.journal)) (sym tally_of)
+        (subst (λ pieces. All (IsOfPiece work n crew.sizes pieces) (calls_by (reporter crew) s.journal)) (sym s.pieces) reports);
     gathered = subst (λ c. IsGathered c s.tally) (sym tally_of) s.gathered;
     knows = knows;
     all = has_all;
-    given_up = given_up_at desks;
-    parts = s.pieces;
+    left = left.left;
+    uncovered = subst (λ (c : CounterId). All (IsUncovered c.n s.journal) left.left) (sym tally_of) left.uncovered;
     most = λ index.
         subst (λ (c : CounterId). times_called calls index ≤ times_covered (map (clipped c.n) (claims_of s.tally.workers)) index) (sym tally_of)
         (subst (λ ws. times_called calls index ≤ times_covered (map (clipped n) (claims_of ws)) index) (sym workers_are)
-        (subst (λ list. times_called list index ≤ times_covered (map (clipped n) (claims_of (workers_at desks))) index) (sym calls_are) (most value called crew index desks are_desks)));
+        (subst (λ k. k ≤ times_covered (map (clipped n) (claims_of (workers_at desks))) index) (sym (calls_are index)) (most value called crew index desks are_desks)));
     least = λ index.
-        subst (λ (c : CounterId). times_covered (map (clipped c.n) (gave c.n (claims_of s.tally.workers))) index ≤ times_called calls index + times_covered (map (clipped c.n) (given_up_at desks)) index) (sym tally_of)
-        (subst (λ ws. times_covered (map (clipped n) (gave n (claims_of ws))) index ≤ times_called calls index + times_covered (map (clipped n) (given_up_at desks)) index) (sym workers_are)
-        (subst (λ list. times_covered (map (clipped n) (gave n (claims_of (workers_at desks)))) index ≤ times_called list index + times_covered (map (clipped n) (given_up_at desks)) index) (sym calls_are) (least value called crew index desks are_desks)));
+        subst (λ (c : CounterId). times_covered (map (clipped c.n) (gave c.n (claims_of s.tally.workers))) index ≤ times_called calls index + times_covered (map (clipped c.n) left.left) index) (sym tally_of)
+        (subst (λ ws. times_covered (map (clipped n) (gave n (claims_of ws))) index ≤ times_called calls index + times_covered (map (clipped n) left.left) index) (sym workers_are)
+        (subst (λ k. times_covered (map (clipped n) (gave n (claims_of (workers_at desks)))) index ≤ k + times_covered (map (clipped n) left.left) index) (sym (calls_are index)) (left.least index)));
     reported = λ not_canceled.
         subst (λ (c : CounterId). AreReported c.n c.workers (gave c.n (claims_of s.tally.workers)) s.journal) (sym tally_of)
         (subst (λ ws. AreReported n (reporter crew) (gave n (claims_of ws)) s.journal) (sym workers_are)
-        (all_reported value called crew s.journal desks are_in (going not_canceled) none_strange));
+        (all_reported value called crew calls s.journal desks are_in (going not_canceled) none_strange));
     claimed = claimed;
   }
 
-  pub worked_out : (calls : List ℕ) → calls ≡ called first.function ++ calls_at called others → IsWorkedOut work crew.sizes crew.future.terms known calls
-  worked_out calls calls_are = elim either [
+  pub worked_out : IsWorkedOut work crew.sizes crew.future.terms known calls
+  worked_out = elim either [
     | inl same ↦ absurd (false≢true (sym open_yet ∙ same.1))
     | inr more ↦
         subst (λ j. IsWorkedOut work crew.sizes crew.future.terms j calls) (sym more)
-        (desks_are_worked_out work crew.sizes crew.future.terms s.journal s.tally calls logged (brought_in calls calls_are) refl
+        (desks_are_worked_out work crew.sizes crew.future.terms s.journal s.tally calls logged brought_in refl
         (subst (λ t. IsJournal t (s.journal ++ logged ∷ [])) terms_are (subst (IsJournal terms) more s.lawful)))
   ]

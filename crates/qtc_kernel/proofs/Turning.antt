@@ -1,25 +1,29 @@
 -- What a worker's turn makes of its desk.
-use Rattle.std.proofs.Common.{◌≡◌, ℕ, ◌+◌, ◌<◌, ◌≤◌, ◌%◌, true, false, nat_lt, cond, List, [], ◌∷◌, ◌++◌, Option, None, Some, IfSome, All, map, length, inl, inr, refl, ap, sym, ◌∙◌, subst, arith, append-nil, length-append}
-use Rattle.std.specs.Prelude.{Contains, slice_index}
+use Rattle.std.proofs.Common.{◌≡◌, ℕ, ◌+◌, ◌<◌, ◌≤◌, ◌%◌, Bool, true, false, nat_lt, cond, List, [], ◌∷◌, ◌++◌, None, Some, All, map, length, inl, inr, refl, ap, sym, ◌∙◌, subst, arith, append-nil, append_assoc, length-append}
+use Rattle.std.specs.Prelude.{◌⊎◌, Contains, slice_index}
+use Rattle.std.proofs.lemmas.Bool.{false≢true}
 use Rattle.std.proofs.lemmas.Bool.Decides.{nat_tests}
 use Rattle.std.proofs.Math.Nat.{mod-lt}
 use Rattle.std.proofs.lemmas.List.{map-append}
-use Rattle.std.proofs.lemmas.List.Elements.{All-get_or, Contains-get_or, filter-append}
+use Rattle.std.proofs.lemmas.List.Elements.{All-get_or, All-head, Contains-get_or, filter-append}
 use Rattle.std.proofs.lemmas.List.FromFn.{map-range_with_len_more}
 use Rattle.qtc_claim.specs.Claims.{Addition, Worker, gave}
 use Rattle.qtc_claim.specs.Counter.{ClaimsNone, ClaimsPiece, LoadsAndAdds, PieceState, SeatState}
+use Rattle.qtc_future.specs.declared.requests.Request.TheVariants.{Cancel, Fail}
 use Rattle.qtc_ops.specs.ItemValue.{ItemValue}
-use Rattle.qtc_shared.specs.Journals.{calls_by}
+use Rattle.qtc_shared.specs.Passes.{PassState}
 use Rattle.qtc_shared.proofs.Prefixes.{begins_further}
-use Rattle.qtc_kernel.specs.Workload.{first_bad, indexes_of}
-use Rattle.qtc_kernel.specs.Crews.{AreWorkedOn, Crew, DeskState, HasMetEnd, IsCrew, IsDesk, IsOwnCall, IsSeated, addition_in, given_at, opening, reporter, work_of}
+use Rattle.qtc_kernel.specs.Workload.{first_bad, indexes_of, item_at}
+use Rattle.qtc_kernel.specs.Crews.{AreOwnCalls, AreWorkedOn, Crew, DeskState, HasMetEnd, IsCrew, IsDesk, IsLeft, IsSeated, given_at, opening, reporter, work_of}
 use Rattle.qtc_kernel.specs.Driving.{in_turn}
-use Rattle.qtc_kernel.specs.Turns.{Calls, ClaimsRange, IsTurn}
+use Rattle.qtc_kernel.specs.Runs.{times_called}
+use Rattle.qtc_kernel.specs.Turns.{Calls, ClaimsRange, GoesOn, IsLastTurn, LooksFree, IsTurn, goes_on, lacks_after}
+use Rattle.qtc_kernel.specs.WorkedOut.{Continues}
 use Rattle.qtc_kernel.specs.Working.{HasLooked, IsAtWork, IsReported, IsWorked, range_in}
 use Rattle.qtc_kernel.specs.declared.turn.Turn.{Turn}
 use Rattle.qtc_kernel.specs.declared.turn.Turn.TheVariants.{Did, Exhausted, SawCanceled, Failed, Memory}
-use Rattle.qtc_kernel.proofs.AtDesks.{desk_on}
-use Rattle.qtc_kernel.proofs.Passing.{handed_on, looked_on, looked_own}
+use Rattle.qtc_kernel.proofs.AtDesks.{desk_on, own_on}
+use Rattle.qtc_kernel.proofs.Passing.{handed_on, knows_met, looked_on, looked_own, made_since}
 use Rattle.qtc_kernel.proofs.Turns.{next_turn}
 
 -- ---- claims that gave a piece
@@ -61,18 +65,17 @@ module _ {F : Type 0} (value : F → List ℕ → ItemValue) (called : F → Lis
   size_least turn within = All-get_or (λ size. 1 ≤ size) crew.sizes turn 0 within fits.sizes.least
 
   module _ (old : DeskState F) (desk : IsDesk value called crew old) (mid : DeskState F) (looked : HasLooked old.pass mid.pass) (of : mid.seat.of ≡ crew.counter)
-      (function : mid.function ≡ old.function) (given_up : mid.given_up ≡ old.given_up) (lacks : mid.lacks ≡ old.lacks) where
-    own : All (λ logged. IsOwnCall (work_of value crew) mid.lacks logged.entry.call logged.item) (calls_by mid.pass.number mid.pass.known)
-    own =
-        subst (λ b. All (λ logged. IsOwnCall (work_of value crew) b logged.entry.call logged.item) (calls_by mid.pass.number mid.pass.known)) (sym lacks)
-        (subst (All (λ logged. IsOwnCall (work_of value crew) old.lacks logged.entry.call logged.item)) (sym (looked_own old.pass mid.pass looked)) desk.seated.own)
+      (badge : mid.badge.of ≡ old.badge.of) (function : mid.function ≡ old.function) (lacks : mid.lacks ≡ old.lacks) where
+    own : AreOwnCalls value called crew mid
+    own = own_on value called crew old mid desk.own (looked_own old.pass mid.pass looked) lacks
+        (λ index. let is : times_called (called mid.function) index ≡ times_called (called old.function) index = ap (λ f. times_called (called f) index) function in omega (arith, is))
 
     -- a claim that gave no piece
     pub found_nothing : (size : ℕ) → ClaimsNone crew.counter.n size old.seat.worker mid.seat.worker → mid.turn ≡ old.turn → IsDesk value called crew mid
     found_nothing size none turn =
         desk_on value called crew old mid desk
-        (record { of = of ∙ sym desk.seated.counter; number = number; given = given; on = looked_on old.pass mid.pass looked; same_value = ap value function; turn = turn })
-        (looked_own old.pass mid.pass looked) lacks given_up (ap called function)
+        (record { of = of ∙ sym desk.seated.counter; badge = badge; number = number; given = given; on = looked_on old.pass mid.pass looked; same_value = ap value function; turn = turn })
+        (looked_own old.pass mid.pass looked) lacks (ap called function)
       where
         number : mid.seat.worker.number ≡ old.seat.worker.number
         number = elim none [
@@ -91,12 +94,15 @@ module _ {F : Type 0} (value : F → List ℕ → ItemValue) (called : F → Lis
       given_more : given_at crew.counter.n mid ≡ given_at crew.counter.n old ++ piece.addition ∷ []
       given_more = ap (λ (w : Worker). gave crew.counter.n w.claims) claim.adds.grown ∙ gave_more crew.counter.n old.seat.worker.claims piece.addition claim.below
 
-      none_kept : old.given_up ≡ None
-      none_kept = by old.given_up desk.given_up
+      none_left : desk.left ≡ []
+      none_left = by desk.left desk.left_are
         where
-          by : (o : Option PieceState) → IfSome o (λ it. (it.of ≡ crew.counter) × HasMetEnd old.pass) → o ≡ None
-          by None h = refl
-          by (Some it) h = absurd (none_met h.1)
+          Left : Addition → Type 0
+          Left = IsLeft crew.counter.n (reporter crew) old.pass
+
+          by : (left : List Addition) → All Left left → left ≡ []
+          by [] all = refl
+          by (claim ∷ claims) all = absurd (none_met (knows_met old.pass (All-head Left claim claims all).ended))
 
       size_is : piece.addition.size ≡ slice_index crew.sizes (length (given_at crew.counter.n old) % length crew.sizes)
       size_is = claim.adds.sized ∙ ap (slice_index crew.sizes) desk.seated.turn
@@ -112,11 +118,12 @@ module _ {F : Type 0} (value : F → List ℕ → ItemValue) (called : F → Lis
           record {
             counter = of;
             future = on.of ∙ desk.seated.future;
+            badge = badge ∙ desk.seated.badge;
+            childless = on.children ∙ desk.seated.childless;
             numbered = on.number ∙ desk.seated.numbered ∙ sym number;
             below = subst (λ k. k < crew.counter.workers) (sym number) desk.seated.below;
             valued = ap value function ∙ desk.seated.valued;
             opened = begins_further opening old.pass.known mid.pass.known desk.seated.opened on.known;
-            own = own;
             turn = turn ∙ next_turn count (length crew.sizes) old.turn within desk.seated.turn
                 ∙ ap (λ k. k % length crew.sizes) (sym (length-append (given_at crew.counter.n old) (piece.addition ∷ [])) ∙ sym (ap length given_more));
             sizes = subst (λ (given : List Addition). map (λ it. it.size) given ≡ in_turn crew.sizes (length given)) (sym given_more) (more_sizes crew.sizes (given_at crew.counter.n old) piece.addition desk.seated.sizes size_is);
@@ -127,9 +134,9 @@ module _ {F : Type 0} (value : F → List ℕ → ItemValue) (called : F → Lis
         seated = seated;
         claims = given_at crew.counter.n old;
         last = given_more;
-        kept_none = given_up ∙ none_kept;
+        own = own;
         worked = subst (AreWorkedOn crew.counter.n (given_at crew.counter.n old) []) (sym (ap called function))
-            (subst (λ o. AreWorkedOn crew.counter.n (given_at crew.counter.n old) (addition_in o) (called old.function)) none_kept desk.worked);
+            (subst (λ left. AreWorkedOn crew.counter.n (given_at crew.counter.n old) left (called old.function)) none_left desk.worked);
         handed = handed_on crew.counter.n (reporter crew) (given_at crew.counter.n old) old.pass mid.pass (looked_on old.pass mid.pass looked) desk.handed;
         piece_is = record {
           of = claim.of;
@@ -140,9 +147,12 @@ module _ {F : Type 0} (value : F → List ℕ → ItemValue) (called : F → Lis
       }
 
       -- what became of the piece is what the turn says
-      pub turn_told : (new : DeskState F) (told : Turn) → new.seat ≡ mid.seat → IsWorked value called crew mid new (range_in crew piece) told → IsTurn value called crew old new told
-      turn_told new told seat = by told
+      pub turn_told : (new : DeskState F) (told : Turn) → LooksFree old.pass mid.pass → new.pass.looks ≡ mid.pass.looks → new.seat ≡ mid.seat → IsWorked value called crew mid new (range_in crew piece) told → IsTurn value called crew old new told
+      turn_told new told free looks seat = by told
         where
+          free_new : LooksFree old.pass new.pass
+          free_new = record { looks = free.looks; last = free.last; grown = looks ∙ free.grown; going = free.going; resumed = free.resumed }
+
           claims : (range : ℕ × ℕ) → range ≡ range_in crew piece → ClaimsRange value called crew old new range
           claims range is = record {
             claim = piece.addition;
@@ -156,18 +166,99 @@ module _ {F : Type 0} (value : F → List ℕ → ItemValue) (called : F → Lis
 
           by : (told : Turn) → IsWorked value called crew mid new (range_in crew piece) told → IsTurn value called crew old new told
           by (Did range) worked = record {
+            looked = free_new;
             claims = claims (range.begin, range.end) worked.0;
             calls = calls (range_in crew piece) (range.begin, range.end) worked.0 worked.1;
             good = ap (first_bad (work_of value crew)) worked.0 ∙ worked.2;
             reported = subst (IsReported (reporter crew) new.pass.known) (sym worked.0) worked.3;
           }
           by Exhausted worked = absurd worked
-          by SawCanceled worked = record { met = worked.1; when = inr (range_in crew piece, claims (range_in crew piece) refl, calls (range_in crew piece) (range_in crew piece) refl worked.0) }
+          by SawCanceled worked = record {
+            met = knows_met new.pass worked.2;
+            when = inr (record {
+              looked = free_new;
+              range = range_in crew piece;
+              claims = claims (range_in crew piece) refl;
+              calls = calls (range_in crew piece) (range_in crew piece) refl worked.0;
+              good = worked.1;
+              ended = worked.2;
+            });
+          }
           by (Failed index) worked = record {
+            looked = free_new;
             range = range_in crew piece;
             claims = claims (range_in crew piece) refl;
             first = worked.1;
             calls = calls ((range_in crew piece).0, index + 1) ((range_in crew piece).0, index + 1) refl worked.0;
-            met = worked.2;
+            fails = made_since old.pass mid.pass new.pass (Fail index (item_at (work_of value crew) index)) (looked_on old.pass mid.pass looked) worked.2;
+            met = worked.3;
           }
-          by Memory worked = worked
+          by Memory worked = record {
+            looked = free_new;
+            range = range_in crew piece;
+            claims = claims (range_in crew piece) refl;
+            at = worked.at;
+            front = worked.front;
+            calls = calls ((range_in crew piece).0, worked.at) ((range_in crew piece).0, worked.at) refl worked.calls;
+            cancels = made_since old.pass mid.pass new.pass Cancel (looked_on old.pass mid.pass looked) worked.cancels;
+            met = worked.met;
+          }
+
+-- ---- what was called
+
+-- each turn calls more at most
+pub turn_calls : {F : Type 0} (value : F → List ℕ → ItemValue) (called : F → List ℕ) (crew : Crew F) (old new : DeskState F) (turn : Turn) → IsTurn value called crew old new turn
+    → (later : List ℕ) × (called new.function ≡ called old.function ++ later)
+turn_calls value called crew old new (Did range) told = (indexes_of (range.begin, range.end), told.calls)
+turn_calls value called crew old new Exhausted told = ([], told.calls ∙ sym (append-nil (called old.function)))
+turn_calls value called crew old new SawCanceled told = elim told.when [
+  | inl same ↦ ([], same.calls ∙ sym (append-nil (called old.function)))
+  | inr claimed ↦ (indexes_of claimed.range, claimed.calls)
+]
+turn_calls value called crew old new (Failed index) told = (indexes_of (told.range.0, index + 1), told.calls)
+turn_calls value called crew old new Memory told = (indexes_of (told.range.0, told.at), told.calls)
+
+-- where it isn't the last one
+pub continues_by : {F : Type 0} (value : F → List ℕ → ItemValue) (called : F → List ℕ) (crew : Crew F) (first old new : DeskState F) (turn : Turn) → IsDesk value called crew first → IsDesk value called crew new
+    → Continues value called first.function old.function → IsTurn value called crew old new turn → Continues value called first.function new.function
+continues_by value called crew first old new turn was is before told =
+    let more = turn_calls value called crew old new turn told in
+    record {
+      same = is.seated.valued ∙ sym was.seated.valued;
+      later = before.later ++ more.0;
+      calls = more.1 ∙ ap (λ calls. calls ++ more.0) before.calls ∙ append_assoc (called first.function) before.later more.0;
+    }
+
+pub continues_same : {F : Type 0} (value : F → List ℕ → ItemValue) (called : F → List ℕ) (function : F) → Continues value called function function
+continues_same value called function = record { same = refl; later = []; calls = sym (append-nil (called function)) }
+
+-- where it is the last one, the counter was seen at its end, or an end was met
+turn_over : {F : Type 0} (value : F → List ℕ → ItemValue) (called : F → List ℕ) (crew : Crew F) (old new : DeskState F) (turn : Turn) → IsTurn value called crew old new turn → goes_on turn ≡ false
+    → (crew.counter.n ≤ new.seat.worker.seen) ⊎ HasMetEnd new.pass
+turn_over value called crew old new (Did range) told over = absurd (false≢true (sym over))
+turn_over value called crew old new Exhausted told over = inl (elim told.claims [
+  | inl loaded ↦ loaded.0
+  | inr added ↦
+      let claim = added.0 in
+      let past = added.1 in
+      let seen : new.seat.worker.seen ≡ claim.begin + claim.size = ap (λ (w : Worker). w.seen) added.2.grown in
+      omega (arith, past, seen)
+])
+turn_over value called crew old new SawCanceled told over = inr told.met
+turn_over value called crew old new (Failed index) told over = inr told.met
+turn_over value called crew old new Memory told over = inr told.met
+
+pub last_over : {F : Type 0} (value : F → List ℕ → ItemValue) (called : F → List ℕ) (crew : Crew F) (old new : DeskState F) (turn : Turn) → IsLastTurn value called crew old new turn → (pass : PassState (List ℕ)) → GoesOn new.pass pass
+    → (crew.counter.n ≤ new.seat.worker.seen) ⊎ HasMetEnd pass
+last_over value called crew old new turn last pass on = elim (turn_over value called crew last.before new turn last.turn_is last.over) [
+  | inl past ↦ inl past
+  | inr met ↦ inr (on.ends met)
+]
+
+-- a block that was done leaves what was wanted
+pub lacks_did : (lacks : Bool) (turn : Turn) → goes_on turn ≡ true → lacks_after lacks turn ≡ lacks
+lacks_did lacks (Did range) did = refl
+lacks_did lacks Exhausted did = absurd (false≢true did)
+lacks_did lacks SawCanceled did = absurd (false≢true did)
+lacks_did lacks (Failed index) did = absurd (false≢true did)
+lacks_did lacks Memory did = absurd (false≢true did)

@@ -4,14 +4,20 @@ use Rattle.qtc_base.specs.Ranges.{times_covered}
 use Rattle.qtc_claim.specs.Claims.{Addition, claims_of, clipped, gave}
 use Rattle.qtc_claim.specs.Counter.{HasAll, IsGathered, KnowsClaims, TallyState}
 use Rattle.qtc_events.specs.declared.calls.Call.TheVariants.{Finish}
-use Rattle.qtc_future.specs.Future.{Logged}
+use Rattle.qtc_future.specs.Future.{Logged, reports_of}
 use Rattle.qtc_shared.specs.Journals.{BeginsWith, IsJournal, calls_by, flags_at}
 use Rattle.qtc_shared.specs.Parts.{Terms}
 use Rattle.qtc_kernel.specs.Crews.{AreReported, IsOfPiece, IsOwnCall, opening}
 use Rattle.qtc_kernel.specs.Gathering.{IsClaimed}
-use Rattle.qtc_kernel.specs.Runs.{times_called}
+use Rattle.qtc_kernel.specs.Runs.{range_of, times_called}
 use Rattle.qtc_kernel.specs.WorkedOut.{IsWorkedOut}
 use Rattle.qtc_kernel.specs.Workload.{Workload, size_of}
+
+-- no report covers an index of the claim
+abbrev pub IsUncovered : ℕ → List (Logged (List ℕ)) → Addition → Type 0
+IsUncovered n journal claim =
+    (index : ℕ) → (clipped n claim).0 ≤ index → index < (clipped n claim).1
+    → times_covered (map range_of (reports_of journal)) index ≡ 0
 
 -- what the desks and the board keep, put together: of the journal up to the finish, the tally, and all calls
 pub record AreBroughtIn (work : Workload) (sizes : List ℕ) (terms : Terms) (journal : List (Logged (List ℕ)))
@@ -20,21 +26,19 @@ pub record AreBroughtIn (work : Workload) (sizes : List ℕ) (terms : Terms) (jo
   pub makers : terms.makers ≡ tally.of.workers + 1
   pub opened : BeginsWith journal opening
   -- whose calls they are: those of the desks, and reports of gathered pieces
-  pub pieces : List Addition
-  pub own : (number : ℕ) → number < tally.of.workers
-      → All (λ logged. IsOwnCall work false logged.entry.call logged.item) (calls_by number journal)
-  pub reports : All (IsOfPiece work tally.of.n sizes pieces) (calls_by tally.of.workers journal)
-  -- what is gathered: these pieces, and those that were given up
+  pub own : (number : ℕ) → number < tally.of.workers → All (IsOwnCall work false calls) (calls_by number journal)
+  pub reports : All (IsOfPiece work tally.of.n sizes tally.pieces) (calls_by tally.of.workers journal)
+  -- what is gathered
   pub gathered : IsGathered tally.of tally
   pub knows : KnowsClaims tally
   pub all : HasAll tally
-  pub given_up : List Addition
-  pub parts : tally.pieces ≡ pieces ++ given_up
-  -- what was called: what was claimed, but for what was given up
+  -- what was called: what was claimed, but for claims that no report covers
+  pub left : List Addition
+  pub uncovered : All (IsUncovered tally.of.n journal) left
   pub most : (index : ℕ) → times_called calls index
       ≤ times_covered (map (clipped tally.of.n) (claims_of tally.workers)) index
   pub least : (index : ℕ) → times_covered (map (clipped tally.of.n) (gave tally.of.n (claims_of tally.workers))) index
-      ≤ times_called calls index + times_covered (map (clipped tally.of.n) given_up) index
+      ≤ times_called calls index + times_covered (map (clipped tally.of.n) left) index
   -- where nothing was canceled, each claim was reported, and one of the workers saw the end
   pub reported : (flags_at journal).canceled ≡ false
       → AreReported tally.of.n tally.of.workers (gave tally.of.n (claims_of tally.workers)) journal

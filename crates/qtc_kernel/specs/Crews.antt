@@ -2,12 +2,14 @@
 use Rattle.std.specs.Prelude.{◌≡◌, ◌+◌, ◌<◌, ◌≤◌, ◌||◌, ◌⊎◌, ◌==◌, ◌&&◌, not, ℕ, Bool, true, false, List, [], ◌∷◌, ◌++◌, Option, None, Some, All, Contains, IfSome, IsTrue, map, length, slice_get, ◌%◌}
 use Rattle.std.specs.List.{list_any}
 use Rattle.qtc_base.specs.Ranges.{times_covered}
+use Rattle.qtc_active.specs.Count.{BadgeState, CountId, new_badge}
 use Rattle.qtc_claim.specs.Claims.{Addition, IsWithinLimits, clipped, gave, new_worker}
-use Rattle.qtc_claim.specs.Counter.{CounterId, PieceState, SeatState, TallyState}
+use Rattle.qtc_claim.specs.Counter.{CounterId, SeatState, TallyState}
 use Rattle.qtc_events.specs.Flags.{Standing}
 use Rattle.qtc_events.specs.declared.calls.Call.{Call}
 use Rattle.qtc_events.specs.declared.calls.Call.TheVariants.{Start, Report, Cancel, Fail}
 use Rattle.qtc_future.specs.Future.{Logged, batches_in, reports_of}
+use Rattle.qtc_future.specs.declared.replies.Failure.{Failure}
 use Rattle.qtc_store.specs.declared.batch.Batch.{Batch}
 use Rattle.qtc_ops.specs.ItemValue.{ItemValue, dropped}
 use Rattle.qtc_lock.specs.Lock.{no_table}
@@ -23,10 +25,12 @@ use Rattle.qtc_kernel.specs.Workload.{Suits, Workload, first_bad, workload}
 
 -- ---- an engine
 
--- its counter and its future, the items, the functions of its workers as they began, and the sizes of its blocks
+-- its counter, its future and its count of workers that are in, the items, the functions of its workers as they began, and
+-- the sizes of its blocks
 pub record Crew (F : Type 0) : Type 0 where
   pub counter : CounterId
   pub future : FutureId
+  pub active : CountId
   pub items : List (List ℕ)
   pub functions : List F
   pub sizes : List ℕ
@@ -36,15 +40,17 @@ abbrev pub no_crew : {F : Type 0} → Crew F
 no_crew = record {
   counter = record { table = no_table; n = 0; workers = 0 };
   future = record { table = no_table; terms = no_terms };
+  active = record { table = no_table; workers = 0 };
   items = [];
   functions = [];
   sizes = [];
 }
 
-abbrev pub crew_with : {F : Type 0} → CounterId → FutureId → List (List ℕ) → List F → List ℕ → Crew F
-crew_with counter future items functions sizes = record {
+abbrev pub crew_with : {F : Type 0} → CounterId → FutureId → CountId → List (List ℕ) → List F → List ℕ → Crew F
+crew_with counter future active items functions sizes = record {
   counter = counter;
   future = future;
+  active = active;
   items = items;
   functions = functions;
   sizes = sizes;
@@ -68,6 +74,7 @@ module _ {F : Type 0} (value : F → List ℕ → ItemValue) where
   pub record IsCrew (crew : Crew F) : Type 0 where
     pub indexes : crew.counter.n ≡ length crew.items
     pub limits : IsWithinLimits crew.counter.n crew.counter.workers
+    pub active : crew.active.workers ≡ crew.counter.workers
     pub makers : crew.future.terms.makers ≡ crew.counter.workers + 1
     pub sizes : AreSizes crew.sizes
     pub suits : Suits crew.future.terms.filter (work_of crew)
@@ -94,42 +101,54 @@ is_strange number logged = is_report logged.entry.call && not (logged.entry.call
 abbrev pub shows_end : Standing → Bool
 shows_end flags = flags.canceled || flags.finished
 
--- Canceled or Finished stands where the pass knows the journal, or stood where it has looked since
+-- Canceled or Finished stands at the journal that the pass knows
+abbrev pub KnowsEnd : PassState (List ℕ) → Type 0
+KnowsEnd pass = IsTrue (shows_end (flags_at pass.known))
+
+-- it stands there, or stood where the pass has looked since
 abbrev pub HasMetEnd : PassState (List ℕ) → Type 0
 HasMetEnd pass = IsTrue (list_any shows_end (flags_at pass.known ∷ pass.seen))
 
 -- ---- a desk
 
--- a worker's desk: its seat at the counter, its pass, its function, the place of its next size, the piece of a claim
--- that it gave up, whether the worker is in, and whether it wanted memory
+-- a worker's desk: its seat at the counter, its pass, its badge, which says whether the worker is in, its function, the
+-- place of its next size, and whether it wanted memory
 pub record DeskState (F : Type 0) : Type 0 where
   pub seat : SeatState
   pub pass : PassState (List ℕ)
+  pub badge : BadgeState
   pub function : F
   pub turn : ℕ
-  pub given_up : Option PieceState
-  pub is_in : Bool
   pub lacks : Bool
 
 -- its claims that gave a piece, in order
 abbrev pub given_at : {F : Type 0} → ℕ → DeskState F → List Addition
 given_at n desk = gave n desk.seat.worker.claims
 
-abbrev pub addition_in : Option PieceState → List Addition
-addition_in None = []
-addition_in (Some piece) = piece.addition ∷ []
+-- the calls that a worker's own pass makes
+abbrev pub is_own : Call → Bool
+is_own Start = true
+is_own Cancel = true
+is_own (Fail index) = true
+is_own _ = false
 
--- what a worker's own pass may have called: the start, a fail of a bad item, and a cancel where it wanted memory
-abbrev pub IsOwnCall : Workload → (lacks : Bool) → Call → (item : List ℕ) → Type 0
-IsOwnCall work lacks Start item = Unit {0}
-IsOwnCall work lacks (Fail index) item = IsFailing work (record { index = index; item = item })
-IsOwnCall work lacks Cancel item = IsTrue lacks
-IsOwnCall work lacks _ item = ⊥
+-- an item is bad, and the function was called on it
+pub record IsFailedCall (work : Workload) (calls : List ℕ) (failure : Failure) : Type 0 where
+  pub failing : IsFailing work failure
+  pub called : 1 ≤ times_called calls failure.index
 
--- the indexes of each of these claims were called, and no others but those of the last, where it was given up
-pub record AreWorkedOn (n : ℕ) (claims : List Addition) (given_up : List Addition) (calls : List ℕ) : Type 0 where
+-- what a worker's own pass may have called: the start, a fail of a bad item on which its function was called, and a cancel
+-- where it wanted memory
+pub record IsOwnCall (work : Workload) (lacks : Bool) (calls : List ℕ) (logged : Logged (List ℕ)) : Type 0 where
+  pub own : IsTrue (is_own logged.entry.call)
+  pub fails : (index : ℕ) → logged.entry.call ≡ Fail index
+      → IsFailedCall work calls (record { index = index; item = logged.item })
+  pub cancels : logged.entry.call ≡ Cancel → IsTrue lacks
+
+-- the indexes of each of these claims were called, and no others but those of the last, where that was left
+pub record AreWorkedOn (n : ℕ) (claims : List Addition) (left : List Addition) (calls : List ℕ) : Type 0 where
   pub whole : List Addition
-  pub parts : claims ≡ whole ++ given_up
+  pub parts : claims ≡ whole ++ left
   pub least : (index : ℕ) → times_covered (map (clipped n) whole) index ≤ times_called calls index
   pub most : (index : ℕ) → times_called calls index ≤ times_covered (map (clipped n) claims) index
 
@@ -146,49 +165,60 @@ AreHandedIn n number claims pass =
 pub record IsNewDesk {F : Type 0} (crew : Crew F) (number : ℕ) (desk : DeskState F) : Type 0 where
   pub seat : desk.seat ≡ record { of = crew.counter; worker = new_worker number }
   pub pass : desk.pass ≡ pass_at crew.future number opening
-  pub given_up : desk.given_up ≡ None
-  pub out : desk.is_in ≡ false
+  pub function : slice_get crew.functions number ≡ Some desk.function
+  pub badge : desk.badge ≡ new_badge crew.active
   pub lacks : desk.lacks ≡ false
 
--- desks of these seats, passes and functions, as they stand beside each other
-abbrev pub desks_with : {F : Type 0} → List SeatState → List (PassState (List ℕ)) → List F → List (DeskState F)
-desks_with [] passes functions = []
-desks_with (seat ∷ seats) [] functions = []
-desks_with (seat ∷ seats) (pass ∷ passes) [] = []
-desks_with (seat ∷ seats) (pass ∷ passes) (function ∷ functions) =
+-- desks of these seats, passes, badges and functions, as they stand beside each other
+abbrev pub desks_with : {F : Type 0} → List SeatState → List (PassState (List ℕ)) → List BadgeState → List F
+    → List (DeskState F)
+desks_with (seat ∷ seats) (pass ∷ passes) (badge ∷ badges) (function ∷ functions) =
     record {
       seat = seat;
       pass = pass;
+      badge = badge;
       function = function;
       turn = 0;
-      given_up = None;
-      is_in = false;
       lacks = false;
     }
-    ∷ desks_with seats passes functions
+    ∷ desks_with seats passes badges functions
+desks_with _ _ _ _ = []
 
 -- a desk of the engine: what its pass knows, and what it claimed
 pub record IsSeated {F : Type 0} (value : F → List ℕ → ItemValue) (crew : Crew F) (desk : DeskState F) : Type 0 where
   pub counter : desk.seat.of ≡ crew.counter
   pub future : desk.pass.of ≡ crew.future
+  pub badge : desk.badge.of ≡ crew.active
+  pub childless : desk.pass.children ≡ 0
   pub numbered : desk.pass.number ≡ desk.seat.worker.number
   pub below : desk.seat.worker.number < crew.counter.workers
   pub valued : value desk.function ≡ value_by value crew.functions
   pub opened : BeginsWith desk.pass.known opening
-  pub own : All (λ logged. IsOwnCall (work_of value crew) desk.lacks logged.entry.call logged.item)
-      (calls_by desk.pass.number desk.pass.known)
   pub turn : desk.turn ≡ length (given_at crew.counter.n desk) % length crew.sizes
   pub sizes : map (λ claim. claim.size) (given_at crew.counter.n desk)
       ≡ in_turn crew.sizes (length (given_at crew.counter.n desk))
 
+-- the calls of its own pass
+abbrev pub AreOwnCalls : {F : Type 0} → (F → List ℕ → ItemValue) → (F → List ℕ) → Crew F → DeskState F → Type 0
+AreOwnCalls value called crew desk =
+    All (IsOwnCall (work_of value crew) desk.lacks (called desk.function)) (calls_by desk.pass.number desk.pass.known)
+
+-- a claim of which a front at most was called: the pass knows an end, and no report of this number covers any of it
+pub record IsLeft (n number : ℕ) (pass : PassState (List ℕ)) (claim : Addition) : Type 0 where
+  pub ended : KnowsEnd pass
+  pub uncovered : (index : ℕ) → (clipped n claim).0 ≤ index → index < (clipped n claim).1
+      → times_covered (ranges_by number pass.known) index ≡ 0
+
 -- what each desk of an engine keeps, whatever its worker does: each claim that gave a piece was worked on and handed
--- in, but for one that was given up, where an end was met
+-- in, but for one at most that was left where an end stands
 pub record IsDesk {F : Type 0} (value : F → List ℕ → ItemValue) (called : F → List ℕ) (crew : Crew F)
     (desk : DeskState F) : Type 0 where
   pub seated : IsSeated value crew desk
-  pub given_up : IfSome desk.given_up (λ piece. (piece.of ≡ crew.counter) × HasMetEnd desk.pass)
-  pub worked : AreWorkedOn crew.counter.n (given_at crew.counter.n desk) (addition_in desk.given_up)
-      (called desk.function)
+  pub own : AreOwnCalls value called crew desk
+  pub left : List Addition
+  pub one : length left ≤ 1
+  pub left_are : All (IsLeft crew.counter.n (reporter crew) desk.pass) left
+  pub worked : AreWorkedOn crew.counter.n (given_at crew.counter.n desk) left (called desk.function)
   pub handed : AreHandedIn crew.counter.n (reporter crew) (given_at crew.counter.n desk) desk.pass
 
 -- the desk is as it was, but for what its seat and its pass saw
@@ -197,8 +227,7 @@ pub record IsSameButLooks {F : Type 0} (old new : DeskState F) : Type 0 where
   pub number : new.seat.worker.number ≡ old.seat.worker.number
   pub known : new.pass.known ≡ old.pass.known
   pub function : new.function ≡ old.function
-  pub given_up : new.given_up ≡ old.given_up
-  pub is_in : new.is_in ≡ old.is_in
+  pub is_in : new.badge.is_in ≡ old.badge.is_in
   pub lacks : new.lacks ≡ old.lacks
 
 -- ---- the board
@@ -220,6 +249,7 @@ pub record IsBoard {F : Type 0} (value : F → List ℕ → ItemValue) (crew : C
   pub counter : tally.of ≡ crew.counter
   pub future : pass.of ≡ crew.future
   pub number : pass.number ≡ reporter crew
+  pub childless : pass.children ≡ 0
   pub opened : BeginsWith pass.known opening
   pub reports : All (IsOfPiece (work_of value crew) crew.counter.n crew.sizes tally.pieces)
       (calls_by pass.number pass.known)

@@ -10,18 +10,19 @@ abbrev pub desk_state : {F : Type 0} → desk.Inside F → DeskState F
 desk_state a = record {
   seat = a.seat;
   pass = a.pass;
+  badge = a.badge;
   function = a.function;
   turn = a.turn;
-  given_up = a.given_up;
-  is_in = a.is_in;
   lacks = a.lacks;
 }
 
 -- the parts of an engine are those of its crew, which fit each other
 pub record IsEngine {F G : Type 0} (value : F → List ℕ → ItemValue) (a : engine.Inside F G) : Type 0 where
   pub crew : IsCrew value a.board.key.crew
+  pub workers : a.workers ≡ a.board.key.crew.counter.workers
   pub counter : a.counter ≡ a.board.key.crew.counter
   pub future : a.future ≡ a.board.key.crew.future
+  pub active : a.active ≡ a.board.key.crew.active
   pub items : a.items.now ≡ a.board.key.crew.items
   pub sizes : a.sizes ≡ a.board.key.crew.sizes
   pub filter : is_filter a.kind ≡ a.board.key.crew.future.terms.filter

@@ -8,8 +8,8 @@ pub mod Inside
 pub mod Gathering
 pub mod Crews
 pub mod Desks
+pub mod WorkedOut
 pub mod Turns
 pub mod Working
-pub mod WorkedOut
 pub mod BroughtIn
 pub mod Endings

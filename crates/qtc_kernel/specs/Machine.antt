@@ -119,17 +119,30 @@ is_steering request.Cancel = true
 is_steering request.Finish = true
 is_steering _ = false
 
+-- ---- the conditions
+
+abbrev pub may_claim : ℕ → Bool
+may_claim size = is_size size
+
+abbrev pub may_report : Workload → Engine → ℕ × ℕ → Bool
+may_report work engine range = is_out engine range && is_none (first_bad work range)
+
+abbrev pub may_fail : Workload → Engine → ℕ × ℕ → ℕ → Bool
+may_fail work engine range index = is_out engine range && is_first_bad work range index
+
+abbrev pub may_ask : Request (List ℕ) → Bool
+may_ask asked = is_steering asked
+
 -- the engine after an event; one whose condition doesn't hold changes nothing
 abbrev pub after : Workload → Engine → Event → Engine
 after work engine look = engine
-after work engine (claim size) = if is_size size then with_claim work engine size else engine
+after work engine (claim size) = if may_claim size then with_claim work engine size else engine
 after work engine (report caller range) =
-    if is_out engine range && is_none (first_bad work range) then with_report work engine caller range else engine
+    if may_report work engine range then with_report work engine caller range else engine
 after work engine (fail caller range index) =
-    if is_out engine range && is_first_bad work range index then with_failure work engine caller range index
-    else engine
+    if may_fail work engine range index then with_failure work engine caller range index else engine
 after work engine (ask caller asked) =
-    if is_steering asked then record engine { future = (step engine.future caller asked).future } else engine
+    if may_ask asked then record engine { future = (step engine.future caller asked).future } else engine
 
 -- the engine after a list of events
 abbrev pub run_from : Workload → Engine → List Event → Engine

@@ -1,31 +1,25 @@
 -- What the parts of a worker's turn come to. (Own.)
-use Rattle.std.specs.Prelude.{◌≡◌, ◌<◌, ◌≤◌, ◌+◌, ◌⊎◌, ℕ, Bool, true, false, List, [], ◌∷◌, ◌++◌, None, Some, Contains, IsTrue}
+use Rattle.std.specs.Prelude.{◌≡◌, ◌<◌, ◌≤◌, ◌+◌, ◌⊎◌, ◌||◌, ◌&&◌, not, ℕ, Bool, true, false, List, [], ◌∷◌, ◌++◌, None, Some, Contains, IsTrue}
 use Rattle.std.specs.List.{list_any}
 use Rattle.qtc_claim.specs.Claims.{Addition, clipped}
 use Rattle.qtc_claim.specs.Counter.{PieceState}
 use Rattle.qtc_events.specs.Flags.{Standing}
 use Rattle.qtc_future.specs.Future.{Logged}
 use Rattle.qtc_future.specs.Steps.{Told, Dropped}
+use Rattle.qtc_future.specs.declared.requests.Request.TheVariants.{Cancel, Fail}
 use Rattle.qtc_ops.specs.ItemValue.{ItemValue}
-use Rattle.qtc_shared.specs.Journals.{BeginsWith, flags_at}
-use Rattle.qtc_shared.specs.Passes.{PassState}
-use Rattle.qtc_kernel.specs.Crews.{AreHandedIn, AreWorkedOn, Crew, DeskState, HasMetEnd, IsSeated, given_at, is_strange, ranges_by, reporter, shows_end, work_of}
-use Rattle.qtc_kernel.specs.Turns.{Calls, lacks_after}
-use Rattle.qtc_kernel.specs.Workload.{first_bad}
+use Rattle.qtc_shared.specs.Journals.{flags_at}
+use Rattle.qtc_shared.specs.Passes.{PassState, having_seen}
+use Rattle.qtc_kernel.specs.Crews.{AreHandedIn, AreOwnCalls, AreWorkedOn, Crew, DeskState, HasMetEnd, IsSeated, KnowsEnd, given_at, is_strange, ranges_by, reporter, shows_end, work_of}
+use Rattle.qtc_kernel.specs.Turns.{Calls, HasMade, lacks_after}
+use Rattle.qtc_kernel.specs.Workload.{first_bad, item_at}
 use Rattle.qtc_kernel.specs.declared.turn.Turn.{Turn}
 use Rattle.qtc_kernel.specs.declared.turn.Turn.TheVariants.{Did, Exhausted, SawCanceled, Failed, Memory}
 
 -- the pass has looked, and knows what it knew
 pub record HasLooked (old new : PassState (List ℕ)) : Type 0 where
   pub seen : List Standing
-  pub pass : new ≡ record old { seen = old.seen ++ seen }
-
--- it knows all that it knew, and more at most
-pub record GoesOn (old new : PassState (List ℕ)) : Type 0 where
-  pub of : new.of ≡ old.of
-  pub number : new.number ≡ old.number
-  pub known : BeginsWith new.known old.known
-  pub ends : HasMetEnd old → HasMetEnd new
+  pub pass : new ≡ having_seen old seen
 
 -- the piece is of the engine, has an index, and its size is one of the engine's
 pub record IsPieceOf {F : Type 0} (crew : Crew F) (piece : PieceState) : Type 0 where
@@ -43,6 +37,10 @@ abbrev pub IsReported : ℕ → List (Logged (List ℕ)) → ℕ × ℕ → Type
 IsReported number journal range =
     Contains (ranges_by number journal) range ⊎ IsTrue (list_any (is_strange number) journal)
 
+-- a suspension stands, and no end
+abbrev pub is_waiting : Standing → Bool
+is_waiting flags = (flags.suspending || flags.suspended) && not (shows_end flags)
+
 -- told that an end stands
 abbrev pub is_drop : Told → Bool
 is_drop (Dropped flags) = true
@@ -57,7 +55,8 @@ IsHandedIn number journal range false = IsTrue (shows_end (flags_at journal))
 pub record StaysAtWork {F : Type 0} (old new : DeskState F) (turn : Turn) : Type 0 where
   pub seat : new.seat ≡ old.seat
   pub number : new.pass.number ≡ old.pass.number
-  pub is_in : new.is_in ≡ old.is_in
+  pub looks : new.pass.looks ≡ old.pass.looks
+  pub badge : new.badge ≡ old.badge
   pub lacks : new.lacks ≡ lacks_after old.lacks turn
 
 module _ {F : Type 0} (value : F → List ℕ → ItemValue) (called : F → List ℕ) (crew : Crew F) where
@@ -66,16 +65,25 @@ module _ {F : Type 0} (value : F → List ℕ → ItemValue) (called : F → Lis
     pub seated : IsSeated value crew desk
     pub claims : List Addition
     pub last : given_at crew.counter.n desk ≡ claims ++ piece.addition ∷ []
-    pub kept_none : desk.given_up ≡ None
+    pub own : AreOwnCalls value called crew desk
     pub worked : AreWorkedOn crew.counter.n claims [] (called desk.function)
     pub handed : AreHandedIn crew.counter.n (reporter crew) claims desk.pass
     pub piece_is : IsPieceOf crew piece
 
-  -- a desk that gives its piece up, where some of its indexes were called
-  pub record IsGivingUp (desk : DeskState F) (piece : PieceState) : Type 0 where
+  -- a desk that leaves its piece, of which a front was called
+  pub record IsLeaving (desk : DeskState F) (piece : PieceState) : Type 0 where
     pub seated : IsSeated value crew desk
+    pub own : AreOwnCalls value called crew desk
     pub part : AreWorkedOn crew.counter.n (given_at crew.counter.n desk) (piece.addition ∷ []) (called desk.function)
-    pub of : piece.of ≡ crew.counter
+    pub piece_is : IsPieceOf crew piece
+
+  -- memory was wanted for the piece in hand, of which a front was called, and the future told to cancel
+  pub record HasWanted (old new : DeskState F) (range : ℕ × ℕ) : Type 0 where
+    pub at : ℕ
+    pub front : (range.0 ≤ at) × (at ≤ range.1)
+    pub calls : Calls value called crew old new (range.0, at)
+    pub cancels : HasMade old.pass new.pass Cancel
+    pub met : HasMetEnd new.pass
 
   -- what became of the piece in hand
   abbrev pub IsWorked : (old new : DeskState F) → ℕ × ℕ → Turn → Type 0
@@ -84,28 +92,38 @@ module _ {F : Type 0} (value : F → List ℕ → ItemValue) (called : F → Lis
       × (first_bad (work_of value crew) range ≡ None)
       × IsReported (reporter crew) new.pass.known range
   IsWorked old new range Exhausted = ⊥
-  IsWorked old new range SawCanceled = Calls value called crew old new range × HasMetEnd new.pass
+  IsWorked old new range SawCanceled =
+      Calls value called crew old new range × (first_bad (work_of value crew) range ≡ None) × KnowsEnd new.pass
   IsWorked old new range (Failed index) =
       Calls value called crew old new (range.0, index + 1)
-      × (first_bad (work_of value crew) range ≡ Some index) × HasMetEnd new.pass
-  IsWorked old new range Memory = HasMetEnd new.pass
+      × (first_bad (work_of value crew) range ≡ Some index)
+      × HasMade old.pass new.pass (Fail index (item_at (work_of value crew) index)) × HasMetEnd new.pass
+  IsWorked old new range Memory = HasWanted old new range
 
 -- what neither a fail nor a cancel changes
 pub record StaysSeated {F : Type 0} (old new : DeskState F) : Type 0 where
   pub seat : new.seat ≡ old.seat
   pub number : new.pass.number ≡ old.pass.number
+  pub looks : new.pass.looks ≡ old.pass.looks
+  pub badge : new.badge ≡ old.badge
   pub function : new.function ≡ old.function
-  pub is_in : new.is_in ≡ old.is_in
 
--- memory was wanted, and the future canceled
+-- memory was wanted, and the future told to cancel
 pub record HasGivenUp {F : Type 0} (old new : DeskState F) (turn : Turn) : Type 0 where
   pub stays : StaysSeated old new
   pub turn_is : turn ≡ Memory
   pub lacks : new.lacks ≡ true
+  pub cancels : HasMade old.pass new.pass Cancel
   pub met : HasMetEnd new.pass
 
--- the future failed with the item at the index; or memory was wanted
-abbrev pub HasFailed : {F : Type 0} → (old new : DeskState F) → ℕ → Turn → Type 0
-HasFailed old new index turn =
-    (StaysSeated old new × (turn ≡ Failed index) × (new.lacks ≡ old.lacks) × HasMetEnd new.pass)
-    ⊎ HasGivenUp old new turn
+-- the future was told to fail with the item at the index
+pub record HasFailed {F : Type 0} (old new : DeskState F) (index : ℕ) (item : List ℕ) (turn : Turn) : Type 0 where
+  pub stays : StaysSeated old new
+  pub turn_is : turn ≡ Failed index
+  pub lacks : new.lacks ≡ old.lacks
+  pub fails : HasMade old.pass new.pass (Fail index item)
+  pub met : HasMetEnd new.pass
+
+-- that, or memory was wanted
+abbrev pub FailsOrWants : {F : Type 0} → (old new : DeskState F) → ℕ → List ℕ → Turn → Type 0
+FailsOrWants old new index item turn = HasFailed old new index item turn ⊎ HasGivenUp old new turn

@@ -3,6 +3,7 @@ ghost use Rattle.std.specs.Prelude.{◌≡◌, true, IfOk};
 ghost use Rattle.std.specs.Borrow.{ftrue};
 ghost use Rattle.qtc_kernel.specs.Crews.{Crew, IsBoard, crew_with};
 
+use qtc_active::ActiveCount;
 use qtc_base::{Bytes, Items, List, NoMemory};
 use qtc_claim::{Counter, Tally};
 use qtc_lock::{KeyLock, Keyed, Names};
@@ -53,15 +54,16 @@ pub(crate) fn placed<F: ItemFn, J: Names<Place<F>>>(
     board: Board<F>,
     counter: &Counter,
     future: &SharedFuture<Bytes>,
+    active: &ActiveCount,
     items: &Items,
     functions: &Vec<F>,
     sizes: &List<u32>,
 ) -> Result<KeyLock<Board<F>>, NoMemory>
     requires named { J.named ≡ true }
-    requires place { J.key.crew ≡ crew_with counter.now future.now items.now functions.now.items sizes.now }
+    requires place { J.key.crew ≡ crew_with counter.now future.now active.now items.now functions.now.items sizes.now }
     requires fits { IsBoard F.value J.key.crew board.tally board.pass }
     ensures { IfOk result (λ lock. lock.key.crew
-        ≡ crew_with counter.now future.now items.now functions.now.items sizes.now) }
+        ≡ crew_with counter.now future.now active.now items.now functions.now.items sizes.now) }
 {
     match KeyLock::new::<Brand>(alloc, board) {
         Ok(lock) => Ok(lock),

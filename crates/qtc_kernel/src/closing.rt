@@ -33,7 +33,7 @@ impl<'a, F: ItemFn, G: Gate> Engine<'a, F, G> {
             counter: _,
             future,
             board: _,
-            crowd: _,
+            active: _,
         } = self;
         future.close(rt, pass)
     }

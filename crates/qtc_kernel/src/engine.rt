@@ -1,12 +1,13 @@
 //! An engine that many workers drive.
-ghost use Rattle.std.specs.Prelude.{◌≡◌, ◌<◌, true, false, IfOk, IsTrue};
-ghost use Rattle.qtc_shared.specs.Passes.{Sees};
+ghost use Rattle.std.specs.Prelude.{◌≡◌, ◌&&◌, not, nat_lt, true, false, IfOk};
 ghost use Rattle.qtc_kernel.specs.Crews.{IsDesk, IsEngineOf, IsPlanned, IsSameButLooks, plan_terms};
+ghost use Rattle.qtc_kernel.specs.Turns.{MayStart};
 
 use crate::beginning::{Opened, open_future};
 use crate::board::{Board, placed};
 use crate::desk::desks_of;
 use crate::{Desk, Kind, Plan};
+use qtc_active::ActiveCount;
 use qtc_base::{Bytes, Items, List, NoMemory};
 use qtc_claim::Counter;
 use qtc_lock::KeyLock;
@@ -15,13 +16,11 @@ use qtc_outside::Gate;
 use qtc_shared::{Pass, SharedFuture};
 use std::alloc::Global;
 use std::marker::{Brand, Model, PhantomData};
-use std::sync::atomic::AtomicU32;
-use std::sync::atomic::Ordering::SeqCst;
 
 /// An engine that many workers drive, each from a desk of its own; they share it by reference. (After Qt's ThreadEngine
 /// and IterateKernel.)
 ///
-/// Contracts see its counter, its future, the items, the functions of its workers as they began, and the sizes of its
+/// Contracts see its counter, its future, its count of workers that are in, the items, the functions of its workers as they began, and the sizes of its
 /// blocks (`Crew`).
 #[derive(Drop)]
 pub struct Engine<'a, F: ItemFn, G: Gate> {
@@ -35,8 +34,7 @@ pub struct Engine<'a, F: ItemFn, G: Gate> {
     pub(crate) counter: Counter,
     pub(crate) future: SharedFuture<Bytes>,
     pub(crate) board: KeyLock<Board<F>>,
-    // How many workers are in. It decides nothing but `may_start`.
-    pub(crate) crowd: AtomicU32,
+    pub(crate) active: ActiveCount,
 }
 
 impl<'a, F: ItemFn, G: Gate> Model for Engine<'a, F, G> {
@@ -84,15 +82,16 @@ impl<'a, F: ItemFn + Drop, G: Gate> Engine<'a, F, G> {
             caller,
         } = open_future(alloc, kind, cancel_after, suspend_after, workers)?;
         let (counter, seats, tally) = Counter::new(alloc, items.len(), workers)?;
+        let (active, badges) = ActiveCount::new(alloc, workers)?;
         let board = Board {
             tally,
             pass: reporter,
             marker: PhantomData,
         };
         let board = placed::<F, Brand>(
-            alloc, board, &counter, &future, items, &functions, &blocks,
+            alloc, board, &counter, &future, &active, items, &functions, &blocks,
         )?;
-        let desks = desks_of(alloc, seats, passes, functions)?;
+        let desks = desks_of(alloc, seats, passes, badges, functions)?;
         let engine = Engine {
             alloc,
             kind,
@@ -104,7 +103,7 @@ impl<'a, F: ItemFn + Drop, G: Gate> Engine<'a, F, G> {
             counter,
             future,
             board,
-            crowd: AtomicU32::new(0),
+            active,
         };
         Ok((engine, desks, caller))
     }
@@ -121,25 +120,31 @@ impl<'a, F: ItemFn, G: Gate> Engine<'a, F, G> {
     /// Counts the worker in.
     pub fn enter(&self, desk: &mut Desk<F>)
         requires desk { IsDesk F.value F.called self.now desk.old }
-        requires out { desk.old.is_in ≡ false }
+        requires out { desk.old.badge.is_in ≡ false }
         ensures desk { IsDesk F.value F.called self.now desk.new }
-        ensures only { desk.new ≡ record desk.old { is_in = true } }
+        ensures only { desk.new ≡ record desk.old { badge = record desk.old.badge { is_in = true } } }
     {
-        desk.is_in = true;
-        self.crowd.fetch_add(1, SeqCst);
+        self.active.enter(&mut desk.badge);
     }
 
-    /// Whether a further worker would find something to do: an index is left, Canceled doesn't stand, and fewer than
-    /// all workers are in. How many are in, no contract says.
+    /// Whether a further worker would find something to do: true exactly where an index is left, Canceled doesn't stand,
+    /// and fewer than all workers are in, each by one load.
     pub fn may_start(&self, desk: &mut Desk<F>) -> bool
         requires desk { IsDesk F.value F.called self.now desk.old }
         ensures desk { IsDesk F.value F.called self.now desk.new }
         ensures only { IsSameButLooks desk.old desk.new }
-        ensures left { IsTrue result → desk.new.seat.worker.seen < self.now.counter.n }
-        ensures going { IsTrue result → Sees desk.old.pass desk.new.pass (λ flags. flags.canceled ≡ false) }
+        ensures may_start { MayStart self.now desk.old desk.new result }
     {
         let is_open = self.counter.is_open(&mut desk.seat);
         let is_canceled = self.future.is_canceled(&mut desk.pass);
-        is_open && !is_canceled && self.crowd.load(SeqCst) < self.workers
+        let active = self.active.count(&mut desk.badge);
+        may_further_start(is_open, is_canceled, active, self.workers)
     }
+}
+
+// Whether an index is left, Canceled doesn't stand, and fewer than all workers are in.
+fn may_further_start(is_open: bool, is_canceled: bool, active: u32, workers: u32) -> bool
+    ensures { result ≡ ((is_open && not is_canceled) && nat_lt active workers) }
+{
+    is_open && !is_canceled && active < workers
 }

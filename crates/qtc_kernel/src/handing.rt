@@ -2,7 +2,7 @@
 ghost use Rattle.std.specs.Prelude.{◌≡◌, None, IfErr, IfOk};
 ghost use Rattle.qtc_future.specs.Steps.{told_by};
 ghost use Rattle.qtc_shared.specs.Passes.{IsHold, Stays};
-ghost use Rattle.qtc_kernel.specs.Crews.{IsBoard, reporter, work_of};
+ghost use Rattle.qtc_kernel.specs.Crews.{IsBoard, IsLeft, KnowsEnd, reporter, work_of};
 ghost use Rattle.qtc_kernel.specs.Working.{IsHandedIn, IsPieceOf, is_drop, range_in};
 ghost use Rattle.qtc_kernel.specs.Workload.{first_bad, texts_in};
 
@@ -49,6 +49,21 @@ impl<'a, F: ItemFn, G: Gate> Engine<'a, F, G> {
         self.future.meet(rt, pass, &mut board.pass);
         self.board.put(board, hold);
         told
+    }
+
+    /// Gathers a piece that isn't reported, in a hold of the board in which the pass, which knows an end, meets the one
+    /// that reports.
+    pub(crate) fn gather<R: Wait>(&self, rt: &R, pass: &mut Pass<Bytes>, piece: Piece)
+        requires of { pass.old.of ≡ self.now.future }
+        requires ended { KnowsEnd pass.old }
+        requires piece { IsPieceOf self.now piece }
+        ensures pass { IsHold pass.old pass.new Stays }
+        ensures left { IsLeft self.now.counter.n (reporter self.now) pass.new piece.addition }
+    {
+        let (mut board, hold) = self.board.take(rt);
+        self.future.meet(rt, pass, &mut board.pass);
+        board.tally.gather(&self.counter, piece);
+        self.board.put(board, hold);
     }
 
     // Reports the values of a piece, and gathers it.

@@ -1,10 +1,10 @@
 //! One turn of a worker.
 ghost use Rattle.std.specs.Prelude.{◌≡◌, ◌+◌, ◌<◌, ◌⊎◌, true, false, None, Some, IsTrue, cond, nat_lt};
 ghost use Rattle.qtc_events.specs.Flags.{flags_in};
-ghost use Rattle.qtc_kernel.specs.Crews.{HasMetEnd, IsDesk, shows_end, work_of};
-ghost use Rattle.qtc_kernel.specs.Laws.{IsFailing};
-ghost use Rattle.qtc_kernel.specs.Turns.{IsTurn, goes_on, lacks_after};
-ghost use Rattle.qtc_kernel.specs.Working.{HasFailed, HasGivenUp, HasLooked, IsAtWork, IsGivingUp, IsWorked, StaysAtWork, range_in};
+ghost use Rattle.qtc_kernel.specs.Crews.{HasMetEnd, IsDesk, IsFailedCall, shows_end, work_of};
+ghost use Rattle.qtc_kernel.specs.Turns.{IsLastTurn, IsTurn, LooksEnded, LooksFree, goes_on, lacks_after};
+ghost use Rattle.qtc_kernel.specs.WorkedOut.{Continues};
+ghost use Rattle.qtc_kernel.specs.Working.{FailsOrWants, HasGivenUp, HasLooked, IsAtWork, IsLeaving, IsWorked, StaysAtWork, is_waiting, range_in};
 ghost use Rattle.qtc_kernel.specs.Workload.{item_at};
 
 use crate::blocks::{Block, block_values};
@@ -16,7 +16,6 @@ use qtc_ops::ItemFn;
 use qtc_outside::Gate;
 use qtc_shared::Pass;
 use std::sync::Wait;
-use std::sync::atomic::Ordering::SeqCst;
 
 // Whether Canceled or Finished stands.
 fn ended(flags: Flags) -> bool
@@ -26,7 +25,9 @@ fn ended(flags: Flags) -> bool
 }
 
 // Whether a suspension stands, and no end.
-fn is_to_wait(flags: Flags) -> bool {
+fn is_to_wait(flags: Flags) -> bool
+    ensures { result ≡ is_waiting (flags_in flags.bits) }
+{
     (flags.is_suspending() || flags.is_suspended()) && !ended(flags)
 }
 
@@ -55,11 +56,11 @@ impl<'a, F: ItemFn, G: Gate> Engine<'a, F, G> {
     /// After every answer but `Did` the worker is out. For want of memory it cancels the future, and for nothing else.
     pub fn step<R: Wait>(&self, rt: &R, desk: &mut Desk<F>) -> Turn
         requires desk { IsDesk F.value F.called self.now desk.old }
-        requires is_in { desk.old.is_in ≡ true }
+        requires is_in { desk.old.badge.is_in ≡ true }
         ensures desk { IsDesk F.value F.called self.now desk.new }
         ensures number { desk.new.pass.number ≡ desk.old.pass.number }
         ensures turn { IsTurn F.value F.called self.now desk.old desk.new result }
-        ensures out { desk.new.is_in ≡ goes_on result }
+        ensures out { desk.new.badge.is_in ≡ goes_on result }
         ensures lacks { desk.new.lacks ≡ lacks_after desk.old.lacks result }
     {
         let turn = self.turn(rt, desk);
@@ -69,12 +70,32 @@ impl<'a, F: ItemFn, G: Gate> Engine<'a, F, G> {
         turn
     }
 
+    /// Takes turns until an answer other than `Did`, which it gives.
+    pub fn work<R: Wait>(&self, rt: &R, desk: &mut Desk<F>) -> Turn
+        requires desk { IsDesk F.value F.called self.now desk.old }
+        requires is_in { desk.old.badge.is_in ≡ true }
+        ensures desk { IsDesk F.value F.called self.now desk.new }
+        ensures function { Continues F.value F.called desk.old.function desk.new.function }
+        ensures turn { IsLastTurn F.value F.called self.now desk.old desk.new result }
+        ensures out { desk.new.badge.is_in ≡ false }
+        ensures lacks { desk.new.lacks ≡ lacks_after desk.old.lacks result }
+    {
+        for _ in rt.forever() {
+            let turn = self.step(rt, desk);
+            if !is_did(turn) {
+                return turn;
+            }
+        }
+        unreachable!()
+    }
+
     // Counts the worker out.
     fn leave(&self, desk: &mut Desk<F>)
-        ensures { desk.new ≡ record desk.old { is_in = false } }
+        requires of { desk.old.badge.of ≡ self.now.active }
+        requires is_in { desk.old.badge.is_in ≡ true }
+        ensures { desk.new ≡ record desk.old { badge = record desk.old.badge { is_in = false } } }
     {
-        desk.is_in = false;
-        self.crowd.fetch_sub(1, SeqCst);
+        self.active.leave(&mut desk.badge);
     }
 
     // The turn, before a worker leaves.
@@ -83,7 +104,7 @@ impl<'a, F: ItemFn, G: Gate> Engine<'a, F, G> {
         ensures desk { IsDesk F.value F.called self.now desk.new }
         ensures number { desk.new.pass.number ≡ desk.old.pass.number }
         ensures turn { IsTurn F.value F.called self.now desk.old desk.new result }
-        ensures is_in { desk.new.is_in ≡ desk.old.is_in }
+        ensures badge { desk.new.badge ≡ desk.old.badge }
         ensures lacks { desk.new.lacks ≡ lacks_after desk.old.lacks result }
     {
         if self.meets_end(rt, &mut desk.pass) {
@@ -94,14 +115,15 @@ impl<'a, F: ItemFn, G: Gate> Engine<'a, F, G> {
             return Turn::Exhausted;
         };
         desk.turn = next_turn(desk.turn, self.sizes.len());
-        self.work(rt, desk, piece)
+        self.work_on(rt, desk, piece)
     }
 
     // Looks whether Canceled or Finished stands, and where a suspension does, again after it.
     fn meets_end<R: Wait>(&self, rt: &R, pass: &mut Pass<Bytes>) -> bool
         requires { pass.old.of ≡ self.now.future }
         ensures looked { HasLooked pass.old pass.new }
-        ensures end { IsTrue result → HasMetEnd pass.new }
+        ensures end { IsTrue result → LooksEnded pass.old pass.new × HasMetEnd pass.new }
+        ensures free { result ≡ false → LooksFree pass.old pass.new }
         ensures going { result ≡ false → HasMetEnd pass.old → ⊥ }
     {
         let flags = self.future.state(pass);
@@ -112,7 +134,7 @@ impl<'a, F: ItemFn, G: Gate> Engine<'a, F, G> {
     }
 
     // Works on the piece in hand, and hands in what was kept.
-    fn work<R: Wait>(&self, rt: &R, desk: &mut Desk<F>, piece: Piece) -> Turn
+    fn work_on<R: Wait>(&self, rt: &R, desk: &mut Desk<F>, piece: Piece) -> Turn
         requires { IsAtWork F.value F.called self.now desk.old piece }
         ensures desk { IsDesk F.value F.called self.now desk.new }
         ensures stays { StaysAtWork desk.old desk.new result }
@@ -138,31 +160,31 @@ impl<'a, F: ItemFn, G: Gate> Engine<'a, F, G> {
         }
     }
 
-    // Fails the future with the bad item at the index. The piece stays with the desk.
+    // Fails the future with the bad item at the index, and gathers the piece.
     fn fail<R: Wait>(&self, rt: &R, desk: &mut Desk<F>, piece: Piece, index: u32) -> Turn
-        requires desk { IsGivingUp F.value F.called self.now desk.old piece }
+        requires desk { IsLeaving F.value F.called self.now desk.old piece }
         requires bad { let work = work_of F.value self.now in
-            IsFailing work (record { index = index; item = item_at work index }) }
+            IsFailedCall work (F.called desk.old.function) (record { index = index; item = item_at work index }) }
         ensures desk { IsDesk F.value F.called self.now desk.new }
-        ensures turn { HasFailed desk.old desk.new index result }
+        ensures turn { FailsOrWants desk.old desk.new index (item_at (work_of F.value self.now) index) result }
     {
         let bad = self.items.get(index).unwrap();
         let Ok(item) = Bytes::from_slice(self.alloc, bad) else {
             return self.give_up(rt, desk, piece);
         };
         self.future.fail(rt, &mut desk.pass, index, item);
-        desk.given_up = Some(piece);
+        self.gather(rt, &mut desk.pass, piece);
         Turn::Failed(index)
     }
 
-    // Cancels the future for want of memory. The piece stays with the desk.
+    // Cancels the future for want of memory, and gathers the piece.
     fn give_up<R: Wait>(&self, rt: &R, desk: &mut Desk<F>, piece: Piece) -> Turn
-        requires { IsGivingUp F.value F.called self.now desk.old piece }
+        requires { IsLeaving F.value F.called self.now desk.old piece }
         ensures desk { IsDesk F.value F.called self.now desk.new }
         ensures turn { HasGivenUp desk.old desk.new result }
     {
         self.future.cancel(rt, &mut desk.pass);
-        desk.given_up = Some(piece);
+        self.gather(rt, &mut desk.pass, piece);
         desk.lacks = true;
         Turn::Memory
     }

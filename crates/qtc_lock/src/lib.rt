@@ -26,8 +26,6 @@ mod lock;
 mod pauses;
 mod rule;
 mod sleepers;
-#[cfg(test)]
-mod tests;
 
 pub use bell::Bell;
 pub use key::{Keyed, Names};

@@ -3,7 +3,7 @@ ghost use Rattle.std.specs.Prelude.{◌≡◌, true, [], ◌∷◌, IfOk, IfErr,
 
 use crate::key::{GhostKey, Keyed, Names};
 use crate::pauses::{PAUSES, pause};
-use crate::rule::{Law, Put, Try, View};
+use crate::rule::{LockRule, Put, Try, View};
 use crate::sleepers::Sleepers;
 use atomic_table::{Refused, Seat, Table};
 use std::alloc::Global;
@@ -14,7 +14,7 @@ use std::sync::atomic::AtomicU64;
 /// A lock with one key for good. A value that is not `Drop` leaves it by `close`.
 #[derive(Drop)]
 pub struct KeyLock<S: Keyed> {
-    table: Table<Option<S>, View<S::Key>, GhostKey<S::Key>, Law<S>, Global>,
+    table: Table<Option<S>, View<S::Key>, GhostKey<S::Key>, LockRule<S>, Global>,
     sleepers: Sleepers,
 }
 

@@ -17,11 +17,11 @@ impl<K> Model for View<K> {
     ghost also_owns = { λ _. ftrue };
 }
 
-pub struct Law<S> {
+pub struct LockRule<S> {
     marker: PhantomData<S>,
 }
 
-impl<S: Keyed> TableRule<Option<S>, View<S::Key>, GhostKey<S::Key>> for Law<S> {
+impl<S: Keyed> TableRule<Option<S>, View<S::Key>, GhostKey<S::Key>> for LockRule<S> {
     ghost use Rattle.qtc_lock.specs.Rule.{IsKept, idle};
 
     ghost holds = { λ about. IsKept S.fits about.key };

@@ -11,7 +11,8 @@ use Rattle.qtc_ops.specs.Folds.{folded, next_of, shown_of}
 use Rattle.qtc_ops.specs.ItemValue.{ItemValue, kept}
 use Rattle.qtc_ops.specs.Kept.{fails, fails_at, pairs, pairs_between, pairs_from}
 use Rattle.qtc_ops.specs.ListOps.{sorted}
-use Rattle.qtc_ops.specs.Numbers.{is_number, most_digits}
+use Rattle.qtc_ops.specs.Numbers.{is_number}
+use Rattle.qtc_base.specs.Limits.{most_number_digits}
 use Rattle.qtc_ops.specs.Order.{bytes_cmp, capped}
 use Rattle.qtc_ops.specs.Predicates.{keeps, Keeps}
 use Rattle.qtc_ops.specs.Texts.{joined_by, IsGreatestOf}
@@ -20,7 +21,7 @@ use Rattle.qtc_ops.specs.Wildcards.{Matches}
 -- ---- items
 
 abbrev pub DigitsAreNumbers : Type 0
-DigitsAreNumbers = (item : List ℕ) → IsTrue (is_number item) ↔ IsNumber most_digits item
+DigitsAreNumbers = (item : List ℕ) → IsTrue (is_number item) ↔ IsNumber most_number_digits item
 
 abbrev pub TestsDecidePredicates : Type 0
 TestsDecidePredicates = (pred : Pred) (item : List ℕ) → IsTrue (keeps pred item) ↔ Keeps pred item

@@ -1,11 +1,8 @@
 -- Items that are numbers. (Own.)
 use Rattle.std.specs.Prelude.{ℕ, Bool, ◌&&◌, nat_le, List, length}
 use Rattle.std.specs.Str.{all_ascii_digits}
-
--- the most digits of an item that counts as a number
-abbrev pub most_digits : ℕ
-most_digits = 19
+use Rattle.qtc_base.specs.Limits.{most_number_digits}
 
 -- whether an item is 1 to that many decimal digits
 abbrev pub is_number : List ℕ → Bool
-is_number item = nat_le 1 (length item) && (nat_le (length item) most_digits && all_ascii_digits item)
+is_number item = nat_le 1 (length item) && (nat_le (length item) most_number_digits && all_ascii_digits item)

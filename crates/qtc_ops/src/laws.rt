@@ -1,14 +1,14 @@
 //! What the definitions of `specs/` that compute come to, in words that compute nothing.
 ghost use Rattle.std.specs.Prelude.{◌≡◌};
 ghost use Rattle.qtc_ops.specs.Laws.{DigitsAreNumbers, TestsDecidePredicates, PatternsMatchPartByPart, PairsAreWhatIsKept, FailsAreWhatFails, PairsStandByRange, FoldsGoFromTheLeft, FoldsCountAndAdd, JoinsSeparate, GreatestIsGreatest, TalliesCount, SortedValuesAscend};
-ghost use Rattle.qtc_ops.specs.Numbers.{most_digits};
+ghost use Rattle.qtc_base.specs.Limits.{most_number_digits};
 
 use crate::NUMBER_DIGITS;
 
 /// An item counts as a number exactly where it is 1 to 19 decimal digits.
 pub fn digits_are_numbers()
     ensures numbers { DigitsAreNumbers }
-    ensures limit { NUMBER_DIGITS ≡ most_digits }
+    ensures limit { NUMBER_DIGITS ≡ most_number_digits }
 {}
 
 /// The test that keeps an item answers exactly where the predicate holds.

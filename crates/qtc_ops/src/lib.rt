@@ -19,8 +19,6 @@ mod operations;
 mod predicates;
 mod prepared;
 mod tallies;
-#[cfg(test)]
-mod tests;
 mod texts;
 mod wildcards;
 

@@ -22,6 +22,3 @@ pub use sure_sink::SureSink;
 pub use sure_texts::SureTexts;
 pub use traits::{Failed, Gate, NoGate, Sink, Texts};
 pub use writing::{WriteFault, write_all};
-
-#[cfg(test)]
-mod tests;

@@ -3,11 +3,10 @@
 #![tactic(auto)]
 
 mod becoming;
+mod calls;
 mod guarded;
 mod pool;
 mod serving;
-#[cfg(test)]
-mod tests;
 mod work;
 
 pub use becoming::Becomes;

@@ -1,9 +1,10 @@
-ghost use Rattle.std.specs.Prelude.{◌≡◌, ◌<◌, ◌≤◌, IfOk, IfErr};
-ghost use Rattle.qtc_pool_core.specs.Core.{Replays};
-ghost use Rattle.qtc_pool_core.specs.Machine.{most_threads};
-ghost use Rattle.qtc_pool_core.specs.Steps.{work_back};
+ghost use Rattle.std.specs.Prelude.{◌≡◌, ◌<◌, ◌≤◌, IfOk};
+ghost use Rattle.qtc_pool_core.specs.Core.{Core, Replays};
+ghost use Rattle.qtc_base.specs.Limits.{most_threads};
+ghost use Rattle.qtc_pool.specs.Calls.{IsCleared, IsDone, IsNext, IsReleased, IsReserved, IsSet, IsStarted, IsTakenBack, IsTried, OnceDoes};
 
-use crate::guarded::{Guarded, guard};
+use crate::calls::{Clear, Done, Release, Reserve, SetMax, Start, TakeNext, TryStart, TryTake};
+use crate::guarded::{Guarded, guard, locked, unlocked};
 use crate::serving::Next;
 use qtc_base::NoMemory;
 use qtc_lock::{Bell, KeyLock};
@@ -14,8 +15,8 @@ use std::sync::Wait;
 
 /// A pool of threads that threads share: a `PoolCore` behind a lock.
 ///
-/// Each call is one call of the core in one hold of the lock, and answers what the core does. Nothing more is claimed of
-/// the answers, since what the pool is at that moment is nobody's to tell. After a call by which a worker may find
+/// Each call is one call of the core in one hold of the lock, and answers what the core does at that moment; what the pool
+/// is then is nobody's to tell. After a call by which a worker may find
 /// something to do, or nothing left to wait for, it rings the bell that idle workers sleep on. (After QThreadPool; own.)
 #[derive(Drop)]
 pub struct Pool<K: Send> {
@@ -52,61 +53,56 @@ impl<K: Send + Drop> Pool<K> {
         priority: i32,
         work: K,
     ) -> Result<(), StartFault<K>>
-        ensures { IfErr result (λ fault. work_back fault ≡ work) }
+        ensures { OnceDoes (λ before after. IsStarted id priority work before after result) }
     {
-        let (mut held, hold) = self.lock.take(rt);
-        let started = held.core.start(id, priority, work);
-        self.lock.put(held, hold);
+        let started = locked(rt, &self.lock, Start { id, priority, work });
         self.bell.ring();
         started
     }
 
     /// Makes the id running where a task may run, as `PoolCore::try_start` does. True leaves the work, and the call of
     /// `done`, to the caller.
-    pub fn try_start<R: Wait>(&self, rt: &R, id: u32) -> Result<bool, TryFault> {
-        let (mut held, hold) = self.lock.take(rt);
-        let tried = held.core.try_start(id);
-        self.lock.put(held, hold);
-        tried
+    pub fn try_start<R: Wait>(&self, rt: &R, id: u32) -> Result<bool, TryFault>
+        ensures { OnceDoes (λ (before after : Core K). IsTried id before after result) }
+    {
+        locked(rt, &self.lock, TryStart { id })
     }
 
     /// Ends a running task, as `PoolCore::done` does: for whom `try_start` told true.
-    pub fn done<R: Wait>(&self, rt: &R, id: u32) -> bool {
-        let (mut held, hold) = self.lock.take(rt);
-        let ran = held.core.done(id);
-        self.lock.put(held, hold);
+    pub fn done<R: Wait>(&self, rt: &R, id: u32) -> bool
+        ensures { OnceDoes (λ (before after : Core K). IsDone id before after result) }
+    {
+        let ran = locked(rt, &self.lock, Done { id });
         self.bell.ring();
         ran
     }
 
     /// Takes a task back that waits, as `PoolCore::try_take` does.
-    pub fn try_take<R: Wait>(&self, rt: &R, id: u32) -> Option<K> {
-        let (mut held, hold) = self.lock.take(rt);
-        let taken = held.core.try_take(id);
-        self.lock.put(held, hold);
-        taken
+    pub fn try_take<R: Wait>(&self, rt: &R, id: u32) -> Option<K>
+        ensures { OnceDoes (λ before after. IsTakenBack id before after result) }
+    {
+        locked(rt, &self.lock, TryTake { id })
     }
 
     /// Takes back all that waits, as `PoolCore::clear` does.
-    pub fn clear<R: Wait>(&self, rt: &R) {
-        let (mut held, hold) = self.lock.take(rt);
-        held.core.clear();
-        self.lock.put(held, hold);
+    pub fn clear<R: Wait>(&self, rt: &R)
+        ensures { OnceDoes (λ (before after : Core K). IsCleared before after) }
+    {
+        locked(rt, &self.lock, Clear);
     }
 
     /// Reserves a thread, as `PoolCore::reserve` does.
-    pub fn reserve<R: Wait>(&self, rt: &R) -> Result<(), ReserveFault> {
-        let (mut held, hold) = self.lock.take(rt);
-        let reserved = held.core.reserve();
-        self.lock.put(held, hold);
-        reserved
+    pub fn reserve<R: Wait>(&self, rt: &R) -> Result<(), ReserveFault>
+        ensures { OnceDoes (λ (before after : Core K). IsReserved before after result) }
+    {
+        locked(rt, &self.lock, Reserve)
     }
 
     /// Releases a reserved thread, as `PoolCore::release` does.
-    pub fn release<R: Wait>(&self, rt: &R) -> Result<(), ReleaseFault> {
-        let (mut held, hold) = self.lock.take(rt);
-        let released = held.core.release();
-        self.lock.put(held, hold);
+    pub fn release<R: Wait>(&self, rt: &R) -> Result<(), ReleaseFault>
+        ensures { OnceDoes (λ (before after : Core K). IsReleased before after result) }
+    {
+        let released = locked(rt, &self.lock, Release);
         self.bell.ring();
         released
     }
@@ -114,26 +110,18 @@ impl<K: Send + Drop> Pool<K> {
     /// Gives the pool another limit, from 1 to 1,024, as `PoolCore::set_max` does.
     pub fn set_max<R: Wait>(&self, rt: &R, max: u32) -> Result<(), NoMemory>
         requires { (0 < max) × (max ≤ most_threads) }
+        ensures { OnceDoes (λ (before after : Core K). IsSet max before after result) }
     {
-        let (mut held, hold) = self.lock.take(rt);
-        let set = held.core.set_max(max);
-        self.lock.put(held, hold);
+        let set = locked(rt, &self.lock, SetMax { max });
         self.bell.ring();
         set
     }
 
     /// What a worker does next: the next task, or, where there is none, whether to wait for one.
-    pub(crate) fn next<R: Wait>(&self, rt: &R) -> Next<K> {
-        let (mut held, hold) = self.lock.take(rt);
-        let next = match held.core.take_next() {
-            Some((id, work)) => Next::Task { id, work },
-            None if held.core.running() == 0 => Next::Leave,
-            None => Next::Sleep {
-                rings: self.bell.count(),
-            },
-        };
-        self.lock.put(held, hold);
-        next
+    pub(crate) fn next<R: Wait>(&self, rt: &R) -> Next<K>
+        ensures { OnceDoes (λ before after. IsNext before after result) }
+    {
+        locked(rt, &self.lock, TakeNext { bell: &self.bell })
     }
 
     /// Sleeps until the bell has rung more often than that.
@@ -149,8 +137,7 @@ impl<K: Send + Drop> Pool<K> {
         ensures few { (0 < result.first) × (result.first ≤ most_threads) }
     {
         let Pool { lock, bell: _ } = self;
-        let Guarded { core } = lock.close(rt);
-        let core = Box::into_inner(core);
+        let core = unlocked(rt, lock);
         let _journal = core.journal();
         core
     }

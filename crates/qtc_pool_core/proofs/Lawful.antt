@@ -7,7 +7,8 @@ use Rattle.std.proofs.lemmas.List.{map-append}
 use Rattle.std.proofs.lemmas.Option.{cond_some, same_Some}
 use Rattle.qtc_pool_core.specs.declared.entries.PoolEntry.{PoolEntry}
 use Rattle.qtc_pool_core.specs.declared.entries.PoolEntry.TheVariants.{Started, Tried, Took, TookBack, Done, Reserved, Released, MaxSet}
-use Rattle.qtc_pool_core.specs.Machine.{Pool, Ticket, empty, head_of, is_greatest, is_head, is_known, is_queued, is_running, may_run, most_reserved, most_threads, only_if, step, with_queued, with_running, without_queued, without_running}
+use Rattle.qtc_pool_core.specs.Machine.{Pool, Ticket, empty, head_of, is_greatest, is_head, is_known, is_queued, is_running, may_run, only_if, step, with_queued, with_running, without_queued, without_running}
+use Rattle.qtc_base.specs.Limits.{most_reserved, most_threads}
 use Rattle.qtc_pool_core.specs.Runs.{run_of}
 use Rattle.qtc_pool_core.specs.Laws.{AreAccounted, IsLawful, RunsAreLawful, TasksAreAccounted, TasksRunOnce, entries_of, is_end, is_run, is_start, is_taking, times, waiting}
 use Rattle.qtc_pool_core.proofs.Replay.{few_run, no_more_run}

@@ -7,7 +7,8 @@ use Rattle.std.proofs.lemmas.Bool.{and_from, or_cases, ltb-true, eqb-true}
 use Rattle.qtc_pool_core.specs.declared.entries.PoolEntry.{PoolEntry}
 use Rattle.qtc_pool_core.specs.declared.entries.PoolEntry.TheVariants.{Started, Tried, Took, TookBack, Done}
 use Rattle.qtc_pool_core.specs.declared.task.Task.{Task}
-use Rattle.qtc_pool_core.specs.Machine.{Pool, Ticket, empty, head_of, is_head, is_known, is_queued, is_running, may_run, most_threads, only_if, step, with_running, without_queued, without_running}
+use Rattle.qtc_pool_core.specs.Machine.{Pool, Ticket, empty, head_of, is_head, is_known, is_queued, is_running, may_run, only_if, step, with_running, without_queued, without_running}
+use Rattle.qtc_base.specs.Limits.{most_threads}
 use Rattle.qtc_pool_core.specs.Runs.{run_of}
 use Rattle.qtc_pool_core.specs.Core.{ticket_of, tickets, without, work_of}
 

@@ -5,7 +5,8 @@ use Rattle.std.proofs.lemmas.Bool.{and_parts, ltb-true}
 use Rattle.std.proofs.lemmas.Option.{same_Some}
 use Rattle.qtc_pool_core.specs.declared.entries.PoolEntry.{PoolEntry}
 use Rattle.qtc_pool_core.specs.declared.entries.PoolEntry.TheVariants.{Started, Tried, Took, TookBack, Done, Reserved, Released, MaxSet}
-use Rattle.qtc_pool_core.specs.Machine.{Pool, empty, is_head, is_known, is_queued, is_running, may_run, most_reserved, most_threads, step, with_queued, with_running, without_queued, without_running}
+use Rattle.qtc_pool_core.specs.Machine.{Pool, empty, is_head, is_known, is_queued, is_running, may_run, step, with_queued, with_running, without_queued, without_running}
+use Rattle.qtc_base.specs.Limits.{most_reserved, most_threads}
 use Rattle.qtc_pool_core.specs.Runs.{run_of}
 use Rattle.qtc_pool_core.specs.Laws.{IsWithinLimits, LimitsHold}
 use Rattle.qtc_pool_core.proofs.Lawful.{stands}

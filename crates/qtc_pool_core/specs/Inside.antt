@@ -11,7 +11,7 @@ use Rattle.std.specs.Vec.{vec_len, vec_capacity}
 use Rattle.std.specs.declared.cmp.Reverse.{Reverse}
 use Rattle.qtc_pool_core.specs.declared.entries.PoolEntry.{PoolEntry}
 use Rattle.qtc_pool_core.specs.declared.task.Task.{Task}
-use Rattle.qtc_pool_core.specs.Machine.{most_reserved, most_threads}
+use Rattle.qtc_base.specs.Limits.{most_reserved, most_threads}
 use Rattle.qtc_pool_core.specs.Core.{Core, Replays}
 use Rattle.qtc_pool_core.specs.Slots.{Row, HasTask, holders, place_of, tasks_in}
 

@@ -2,7 +2,8 @@
 use Rattle.std.specs.Prelude.{ℕ, ◌≡◌, ◌≤◌, ◌<◌, ◌+◌, ◌==◌, ◌↔◌, ◌<ℤ◌, ◌≤ℤ◌, Bool, false, if◌then◌else◌, List, [], ◌∷◌, ◌++◌, Some, None, length, map, All, IsTrue}
 use Rattle.qtc_pool_core.specs.declared.entries.PoolEntry.{PoolEntry}
 use Rattle.qtc_pool_core.specs.declared.entries.PoolEntry.TheVariants.{Started, Tried, Took, TookBack, Done}
-use Rattle.qtc_pool_core.specs.Machine.{Pool, Ticket, empty, head_of, is_running, may_run, most_reserved, most_threads, step}
+use Rattle.qtc_pool_core.specs.Machine.{Pool, Ticket, empty, head_of, is_running, may_run, step}
+use Rattle.qtc_base.specs.Limits.{most_reserved, most_threads}
 use Rattle.qtc_pool_core.specs.Runs.{run_of}
 
 -- no task before it has its priority, and none of the queue a greater one

@@ -3,16 +3,9 @@
 use Rattle.std.specs.Prelude.{ℕ, ℤ, ◌+◌, ◌-◌, ◌==◌, ◌&&◌, ◌||◌, nat_lt, nat_le, int_le, not, Bool, false, if◌then◌else◌, List, [], ◌∷◌, ◌++◌, Option, None, Some, length, filter, find}
 use Rattle.std.specs.List.{list_any, list_all}
 use Rattle.std.specs.Option.{option_map_or}
+use Rattle.qtc_base.specs.Limits.{most_reserved, most_threads}
 use Rattle.qtc_pool_core.specs.declared.entries.PoolEntry.{PoolEntry}
 use Rattle.qtc_pool_core.specs.declared.entries.PoolEntry.TheVariants.{Started, Tried, Took, TookBack, Done, Reserved, Released, MaxSet}
-
--- how many threads a pool may have
-abbrev pub most_threads : ℕ
-most_threads = 1024
-
--- how many threads may be reserved
-abbrev pub most_reserved : ℕ
-most_reserved = 65536
 
 -- a task that waits
 pub record Ticket : Type 0 where

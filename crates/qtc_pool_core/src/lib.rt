@@ -8,8 +8,6 @@ mod limits;
 mod pool_core;
 mod queue;
 mod task;
-#[cfg(test)]
-mod tests;
 
 pub use entries::PoolEntry;
 pub use faults::{ReleaseFault, ReserveFault, StartFault, TryFault};

@@ -1,5 +1,5 @@
 ghost use Rattle.std.specs.Prelude.{◌≡◌};
-ghost use Rattle.qtc_pool_core.specs.Machine.{most_reserved, most_threads};
+ghost use Rattle.qtc_base.specs.Limits.{most_reserved, most_threads};
 
 /// How many threads a pool may have.
 pub const MOST_THREADS: u32 = 1024;

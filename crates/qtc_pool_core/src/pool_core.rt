@@ -2,7 +2,7 @@ ghost use Rattle.std.specs.Prelude.{◌≡◌, ◌+◌, ◌++◌, ◌≤◌, ◌
 ghost use Rattle.std.specs.Vec.{vec_len, vec_capacity};
 ghost use Rattle.qtc_pool_core.specs.Steps.{taken_back};
 ghost use Rattle.qtc_pool_core.specs.Slots.{tasks_in};
-ghost use Rattle.qtc_pool_core.specs.Machine.{most_threads};
+ghost use Rattle.qtc_base.specs.Limits.{most_threads};
 
 use crate::queue::Queue;
 use crate::task::Task;
@@ -62,7 +62,8 @@ impl<K> PoolCore<K> {
     ghost use Rattle.std.specs.Prelude.{◌≡◌, ◌≢◌, ◌≤◌, ◌<◌, ◌↔◌, ◌⊎◌, true, false, Some, None, IfSome, IfNone, IsSome, IsTrue, OnSome, [], length};
     ghost use Rattle.std.specs.Bool.{OnTrue, OnFalse};
     ghost use Rattle.qtc_pool_core.specs.Core.{new_core, pool_of, without, work_of, Replays};
-    ghost use Rattle.qtc_pool_core.specs.Machine.{is_known, is_running, may_run, most_reserved, most_threads};
+    ghost use Rattle.qtc_pool_core.specs.Machine.{is_known, is_running, may_run};
+    ghost use Rattle.qtc_base.specs.Limits.{most_reserved, most_threads};
     ghost use Rattle.qtc_pool_core.specs.Steps.{Steps};
     ghost use Rattle.qtc_pool_core.specs.Inside.{owed};
     ghost use Rattle.qtc_pool_core.specs.declared.entries.PoolEntry.TheVariants as entry;
@@ -202,7 +203,8 @@ impl<K> PoolCore<K> {
 impl<K: Drop> PoolCore<K> {
     ghost use Rattle.std.specs.Prelude.{◌≡◌, ◌≢◌, ◌≤◌, ◌<◌, ◌-◌, ◌↔◌, max, false, Err, OnOk, OnErr, IfOk, IfErr, IsOk, IsTrue};
     ghost use Rattle.qtc_pool_core.specs.Core.{pool_of};
-    ghost use Rattle.qtc_pool_core.specs.Machine.{is_known, may_run, most_reserved, most_threads};
+    ghost use Rattle.qtc_pool_core.specs.Machine.{is_known, may_run};
+    ghost use Rattle.qtc_base.specs.Limits.{most_reserved, most_threads};
     ghost use Rattle.qtc_pool_core.specs.Steps.{cleared, queued, work_back, Steps, Tries};
     ghost use Rattle.qtc_pool_core.specs.declared.entries.PoolEntry.TheVariants as entry;
 

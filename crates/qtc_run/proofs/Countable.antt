@@ -10,15 +10,15 @@ use Rattle.std.proofs.lemmas.Bool.Decides.{nat_tests}
 use Rattle.std.proofs.lemmas.Grind.{common_steps}
 use Rattle.std.proofs.lemmas.List.Elements.{All-nil, All-cons}
 use Rattle.qtc_base.specs.Decimal.{number_of}
-use Rattle.qtc_job.specs.declared.jobs.Job.{Job}
-use Rattle.qtc_job.specs.declared.jobs.JobFile.{JobFile}
-use Rattle.qtc_job.specs.declared.keywords.Keyword.{Keyword}
-use Rattle.qtc_job.specs.declared.keywords.Keyword.TheVariants as word
+use Rattle.qtc_job_file.specs.declared.jobs.Job.{Job}
+use Rattle.qtc_job_file.specs.declared.jobs.JobFile.{JobFile}
+use Rattle.qtc_job_file.specs.declared.keywords.Keyword.{Keyword}
+use Rattle.qtc_job_file.specs.declared.keywords.Keyword.TheVariants as word
 use Rattle.qtc_job.specs.Codes.{codes_on, own_codes, job_codes, own_below, above_codes, form_codes, word_codes, where_, names_above, name_of, stands, is_no_number, is_out_of_range, is_repeated, repeats_a_name, is_a_job_too_many}
 use Rattle.qtc_job.specs.Forms.{Place, number, input_form, directive_form, job_form, workers_form}
 use Rattle.qtc_job.specs.Grammar.{IsBad, Reads, codes_at}
-use Rattle.qtc_job.specs.Keywords.{keyword_of, spelling}
-use Rattle.qtc_job.specs.Lawful.{IsWithin}
+use Rattle.qtc_job_file.specs.Keywords.{keyword_of, spelling}
+use Rattle.qtc_job_file.specs.Lawful.{IsWithin}
 use Rattle.qtc_job.specs.Lines.{Line, too_long, silent, unknown, workers, job, says}
 use Rattle.qtc_job.specs.Literals.{is_numeral, is_within}
 use Rattle.qtc_job.specs.Meaning.{input_kind, input_meant, args_of, jobs_of, job_of, workers_of}

@@ -8,5 +8,4 @@ pub mod Rows
 pub mod Seating
 pub mod SequentialLemmas
 pub mod SumLemmas
-pub mod TextLemmas
 pub mod Worked

@@ -3,6 +3,7 @@ use Rattle.std.proofs.Common.{◌≡◌, ℕ, false, ◌+◌, ◌<◌, ◌≤◌
 use Rattle.std.specs.Prelude.{All, IfSome, slice_get}
 use Rattle.std.proofs.lemmas.List.Elements.{All-nil, All-cons}
 use Rattle.std.proofs.lemmas.Option.{slice_get-get_or}
+use Rattle.qtc_active.specs.Count.{BadgeState}
 use Rattle.qtc_kernel.specs.Crews.{AreDesks, Crew, DeskState, IsDesk, IsEngineOf, IsNewDesk, IsPlanned, plan_terms, value_by}
 use Rattle.qtc_kernel.specs.Driving.{is_filter}
 use Rattle.qtc_kernel.specs.Workload.{workload}
@@ -59,7 +60,7 @@ module _ {F : Type 0} (value : F → List ℕ → ItemValue) (called : F → Lis
   pub free-desks : (items : List (List ℕ)) (terms : Terms) (sizes : List ℕ) (functions : List F) (crew : Crew F) (desks : List (DeskState F)) (pass : PassState (List ℕ)) → IsEngineOf value called items terms sizes functions crew desks pass → AreFree value called crew desks
   free-desks items terms sizes functions crew desks pass made = record {
     count = made.desks_are.count;
-    each = λ k d within. record { desk_is = made.desks_are.each k d within; out = (some-at (IsNewDesk crew k) desks k d within (made.fresh k within)).out };
+    each = λ k d within. record { desk_is = made.desks_are.each k d within; out = ap (λ (b : BadgeState). b.is_in) (some-at (IsNewDesk crew k) desks k d within (made.fresh k within)).badge };
   }
 
   -- the desks of one engine more
@@ -83,5 +84,5 @@ module _ {F : Type 0} (value : F → List ℕ → ItemValue) (called : F → Lis
     each = all-imply (IsFree value called crew) (IsDesk value called crew) desks (λ desk is. is.desk_is) free;
   }
 
-  pub are-out : (crew : Crew F) (desks : List (DeskState F)) → All (IsFree value called crew) desks → All (λ desk. desk.is_in ≡ false) desks
-  are-out crew desks free = all-imply (IsFree value called crew) (λ desk. desk.is_in ≡ false) desks (λ desk is. is.out) free
+  pub are-out : (crew : Crew F) (desks : List (DeskState F)) → All (IsFree value called crew) desks → All (λ desk. desk.badge.is_in ≡ false) desks
+  are-out crew desks free = all-imply (IsFree value called crew) (λ desk. desk.badge.is_in ≡ false) desks (λ desk is. is.out) free

@@ -1,7 +1,7 @@
 -- The texts of reports, job by job.
 use Rattle.std.proofs.Common.{◌≡◌, ◌<◌, ◌+◌, ℕ, zero, suc, get_or, take, List, [], ◌∷◌, ◌++◌, length, ◌⊎◌, ⊎_elim, refl, ap, sym, subst, ◌∙◌, append_assoc, append-nil, arith}
 use Rattle.std.specs.List.{flat_map, zip}
-use Rattle.qtc_job.specs.declared.jobs.Job.{Job}
+use Rattle.qtc_job_file.specs.declared.jobs.Job.{Job}
 use Rattle.qtc_kernel.specs.Workload.{workload}
 use Rattle.qtc_ops.specs.Operations.{value_of}
 use Rattle.qtc_run.specs.declared.reports.JobReport.{JobReport}

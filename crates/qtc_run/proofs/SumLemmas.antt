@@ -4,7 +4,7 @@ use Rattle.std.specs.Prelude.{All, IsSome}
 use Rattle.std.proofs.lemmas.List.{get_or_append_left, get_or-append-add}
 use Rattle.std.proofs.lemmas.List.Sums.{sum_by-append}
 use Rattle.qtc_base.specs.Items.{PassesLimit}
-use Rattle.qtc_job.specs.declared.jobs.Job.{Job}
+use Rattle.qtc_job_file.specs.declared.jobs.Job.{Job}
 use Rattle.qtc_outside.specs.Shelf.{text_under}
 use Rattle.qtc_run.specs.Loaded.{HasAll}
 use Rattle.qtc_run.specs.Sources.{Texts, items_of, items_of_all, names_of, names_of_all}

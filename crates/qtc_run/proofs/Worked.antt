@@ -13,7 +13,7 @@ use Rattle.qtc_future.specs.Future.{Future, Logged, entries_of, events_of, resul
 use Rattle.qtc_future.specs.Legal.{IsLegal}
 use Rattle.qtc_future.specs.declared.replies.Outcome.{Outcome}
 use Rattle.qtc_future.specs.declared.replies.Outcome.TheVariants.{Values, Failed, Canceled}
-use Rattle.qtc_job.specs.declared.jobs.Job.{Job}
+use Rattle.qtc_job_file.specs.declared.jobs.Job.{Job}
 use Rattle.qtc_kernel.specs.Crews.{Crew}
 use Rattle.qtc_kernel.specs.Driving.{is_filter}
 use Rattle.qtc_kernel.specs.WorkedOut.{IsWorkedOut, IsOpenedAndFinished as IsOpened}
@@ -185,7 +185,7 @@ runnable-at (first ∷ jobs) (suc place) job all within is = runnable-at jobs pl
 
 -- ---- an engine that was closed
 
-pub closed-report : {F : Type 0} (value : F → List ℕ → ItemValue) (workers : ℕ) (source : Source) (crew : Crew F) (done : Finished) (core : Future (List ℕ)) (report : JobReport) → WorkedJobsAreReported → IsReady source → IsEngineFor value workers source crew → HasDone value crew done → core ≡ future_at crew.future.terms core.calls → (IsTrue (flags_at done.pass.known).finished → core.calls ≡ done.pass.known) → report.calls ≡ done.calls → IsMadeOf source.job.now report core → is_canceled_end report.ended ≡ false → IsReportFor source report
+pub closed-report : {F : Type 0} (value : F → List ℕ → ItemValue) (workers : ℕ) (source : Source) (crew : Crew F) (done : Finished F) (core : Future (List ℕ)) (report : JobReport) → WorkedJobsAreReported → IsReady source → IsEngineFor value workers source crew → HasDone value crew done → core ≡ future_at crew.future.terms core.calls → (IsTrue (flags_at done.pass.known).finished → core.calls ≡ done.pass.known) → report.calls ≡ done.calls → IsMadeOf source.job.now report core → is_canceled_end report.ended ≡ false → IsReportFor source report
 closed-report value workers source crew done core report law ready engine has core_is whole calls made going =
     let terms : Terms = crew.future.terms in
     let known : List (Logged (List ℕ)) = done.pass.known in

@@ -14,8 +14,8 @@ use Rattle.qtc_kernel.specs.Runs.{times_called}
 use Rattle.qtc_kernel.specs.WorkedOut.{IsWorkedOut}
 use Rattle.qtc_kernel.specs.Workload.{Workload, bad_indexes, item_at, kept_texts, worked_on}
 use Rattle.qtc_shared.specs.Parts.{future_at}
-use Rattle.qtc_job.specs.declared.jobs.Job.{Job}
-use Rattle.qtc_job.specs.declared.jobs.JobFile.{JobFile}
+use Rattle.qtc_job_file.specs.declared.jobs.Job.{Job}
+use Rattle.qtc_job_file.specs.declared.jobs.JobFile.{JobFile}
 use Rattle.qtc_job.specs.Grammar.{Reads}
 use Rattle.qtc_job.specs.Lines.{Line}
 use Rattle.qtc_run.specs.Sums.{IsCountable}

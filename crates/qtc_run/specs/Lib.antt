@@ -1,7 +1,6 @@
 -- What a run of jobs over texts reports.
 pub mod Laws
 pub mod Loaded
-pub mod LoadedInside
 pub mod Pairing
 pub mod Reports
 pub mod ReportTexts

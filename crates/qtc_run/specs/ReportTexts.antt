@@ -6,7 +6,7 @@ use Rattle.qtc_base.specs.Escape.{escaped}
 use Rattle.qtc_events.specs.Text.{event_line}
 use Rattle.qtc_future.specs.declared.replies.Outcome.{Outcome}
 use Rattle.qtc_future.specs.declared.replies.Outcome.TheVariants.{Values, Failed, Canceled}
-use Rattle.qtc_job.specs.declared.jobs.JobFile.{JobFile}
+use Rattle.qtc_job_file.specs.declared.jobs.JobFile.{JobFile}
 use Rattle.qtc_run.specs.declared.reports.Placed.{Placed}
 use Rattle.qtc_run.specs.declared.reports.JobReport.{JobReport}
 use Rattle.qtc_run.specs.declared.reports.Report.{Report}

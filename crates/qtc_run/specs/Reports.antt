@@ -17,8 +17,8 @@ use Rattle.qtc_future.specs.declared.replies.Outcome.TheVariants.{Values, Failed
 use Rattle.qtc_kernel.specs.Laws.{AreCalledOnce, IsFailing}
 use Rattle.qtc_kernel.specs.Runs.{HasTexts, IsBlock, reported_ranges, times_called}
 use Rattle.qtc_kernel.specs.Workload.{Workload, bad_indexes, kept_texts, size_of}
-use Rattle.qtc_job.specs.declared.jobs.Job.{Job}
-use Rattle.qtc_job.specs.declared.jobs.JobFile.{JobFile}
+use Rattle.qtc_job_file.specs.declared.jobs.Job.{Job}
+use Rattle.qtc_job_file.specs.declared.jobs.JobFile.{JobFile}
 use Rattle.qtc_pool_core.specs.Machine.{empty}
 use Rattle.qtc_pool_core.specs.Runs.{run_of}
 use Rattle.qtc_pool_core.specs.declared.entries.PoolEntry.{PoolEntry}

@@ -1,6 +1,6 @@
 -- The jobs of a round: their engines, and the desks of the pool's workers. (Own.)
 use Rattle.std.specs.Prelude.{◌≡◌, ◌+◌, ◌<◌, ◌≤◌, ℕ, false, List, [], ◌∷◌, ◌++◌, All, IsTrue, length, replicate}
-use Rattle.qtc_job.specs.declared.jobs.Job.{Job}
+use Rattle.qtc_job_file.specs.declared.jobs.Job.{Job}
 use Rattle.qtc_kernel.specs.Crews.{Crew, DeskState, IsDesk, work_of as crew_work}
 use Rattle.qtc_kernel.specs.Driving.{AreSizes}
 use Rattle.qtc_kernel.specs.WorkedOut.{IsWorkedOut}
@@ -55,7 +55,7 @@ module _ {F : Type 0} (value : F → List ℕ → ItemValue) where
     pub terms : crew.future.terms ≡ terms_of workers source.job.now
 
   -- what the engine has done, and a pass of it that knows the whole journal
-  pub record HasDone (crew : Crew F) (done : Finished) : Type 0 where
+  pub record HasDone (crew : Crew F) (done : Finished F) : Type 0 where
     pub of : done.pass.of ≡ crew.future
     pub finished : IsTrue (flags_at done.pass.known).finished
     pub worked : IsWorkedOut (crew_work value crew) crew.sizes crew.future.terms done.pass.known done.calls
@@ -64,7 +64,7 @@ module _ {F : Type 0} (value : F → List ℕ → ItemValue) (called : F → Lis
   -- a desk of the engine whose worker is out
   pub record IsFree (crew : Crew F) (desk : DeskState F) : Type 0 where
     pub desk_is : IsDesk value called crew desk
-    pub out : desk.is_in ≡ false
+    pub out : desk.badge.is_in ≡ false
 
   -- all desks of the engine, whose workers are out
   pub record AreFree (crew : Crew F) (desks : List (DeskState F)) : Type 0 where

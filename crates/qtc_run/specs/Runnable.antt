@@ -1,9 +1,9 @@
 -- Which jobs are run so far: maps and filters of texts. (Own.)
 use Rattle.std.specs.Prelude.{Bool, true, false, not, ◌&&◌, ◌==◌, is_none, List, length}
 use Rattle.std.specs.List.{list_all}
-use Rattle.qtc_job.specs.declared.jobs.Input.{Input}
-use Rattle.qtc_job.specs.declared.jobs.Input.TheVariants.{Lines, Files, Pieces}
-use Rattle.qtc_job.specs.declared.jobs.Job.{Job}
+use Rattle.qtc_job_file.specs.declared.jobs.Input.{Input}
+use Rattle.qtc_job_file.specs.declared.jobs.Input.TheVariants.{Lines, Files, Pieces}
+use Rattle.qtc_job_file.specs.declared.jobs.Job.{Job}
 
 abbrev pub reads_texts : Input → Bool
 reads_texts (Lines name) = true

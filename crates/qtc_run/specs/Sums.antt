@@ -1,10 +1,10 @@
 -- Where the items of a run are too many. (Own.)
 use Rattle.std.specs.Prelude.{◌≡◌, ℕ, ◌+◌, ◌<◌, ◌≤◌, List, length, take, All}
 use Rattle.qtc_base.specs.Items.{PassesLimit, total_bytes}
-use Rattle.qtc_job.specs.declared.jobs.Input.{Input}
-use Rattle.qtc_job.specs.declared.jobs.Input.TheVariants as input
-use Rattle.qtc_job.specs.declared.jobs.Job.{Job}
-use Rattle.qtc_job.specs.declared.jobs.JobFile.{JobFile}
+use Rattle.qtc_job_file.specs.declared.jobs.Input.{Input}
+use Rattle.qtc_job_file.specs.declared.jobs.Input.TheVariants as input
+use Rattle.qtc_job_file.specs.declared.jobs.Job.{Job}
+use Rattle.qtc_job_file.specs.declared.jobs.JobFile.{JobFile}
 use Rattle.qtc_kernel.specs.Driving.{AreSizes}
 use Rattle.qtc_run.specs.declared.reports.RunFault.{RunFault}
 use Rattle.qtc_run.specs.declared.reports.RunFault.TheVariants.{TooLarge, Memory}

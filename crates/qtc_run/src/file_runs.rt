@@ -14,7 +14,7 @@ use crate::sources::items_from;
 use crate::sums::sizes_of;
 use crate::{Loaded, Report, RunFault};
 use qtc_base::NoMemory;
-use qtc_job::JobFile;
+use qtc_job_file::JobFile;
 use qtc_outside::Gate;
 use std::alloc::Global;
 use std::sync::Wait;

@@ -11,7 +11,7 @@ use crate::rounds::Source;
 use qtc_base::{Bytes, List, NoMemory};
 use qtc_events::{Entry, Event};
 use qtc_future::{FutureCore, Outcome};
-use qtc_job::Job;
+use qtc_job_file::Job;
 use qtc_kernel::{Engine, Finished, Kind};
 use qtc_ops::{ItemFn, ItemOp};
 use qtc_outside::Gate;
@@ -93,7 +93,7 @@ pub fn report_of<F: ItemFn + Drop, G: Gate, R: Wait>(
     rt: &R,
     source: &Source<'_>,
     engine: Engine<'_, F, G>,
-    done: Finished,
+    done: Finished<F>,
     workers: u32,
 ) -> Result<JobReport, NoMemory>
     requires ready { IsReady source.now }
@@ -101,7 +101,11 @@ pub fn report_of<F: ItemFn + Drop, G: Gate, R: Wait>(
     requires done { HasDone F.value engine done }
     ensures { IfOk result (IsReportFor source.now) }
 {
-    let Finished { pass, calls } = done;
+    let Finished {
+        pass,
+        calls,
+        functions: _,
+    } = done;
     let future = engine.close(rt, pass);
     let report = report_from(alloc, source.job, future, calls)?;
     if is_canceled(&report.ended) {

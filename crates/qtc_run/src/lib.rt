@@ -5,7 +5,6 @@ mod crowds;
 mod file_runs;
 mod job_runs;
 mod laws;
-mod loaded;
 mod places;
 mod report_rooms;
 mod report_texts;
@@ -25,8 +24,7 @@ pub use laws::{
     lines_count_feeds, pieces_are_the_text, read_files_can_be_counted, reports_are_sequential,
     reports_go_job_by_job, worked_jobs_are_reported,
 };
-pub use loaded::Loaded;
+pub use qtc_job_file::{Loaded, texts_named};
 pub use report_texts::report_text;
 pub use reports::{JobReport, Placed, Report, RunFault};
 pub use runnable::is_runnable;
-pub use sources::texts_named;

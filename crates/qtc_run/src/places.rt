@@ -1,10 +1,9 @@
 //! A worker's place at a job.
-ghost use Rattle.std.specs.Prelude.{◌≡◌, true, false};
-ghost use Rattle.qtc_kernel.specs.Crews.{IsDesk};
+ghost use Rattle.std.specs.Prelude.{◌≡◌};
 ghost use Rattle.qtc_run.specs.Rounds.{IsFree};
 
 use crate::slots::Slot;
-use qtc_kernel::{Desk, Engine, Turn};
+use qtc_kernel::{Desk, Engine};
 use qtc_ops::ItemFn;
 use qtc_outside::Gate;
 use qtc_pool::Pool;
@@ -30,22 +29,6 @@ impl<'e, 'a, F: ItemFn, G: Gate> Model for Place<'e, 'a, F, G> {
     ghost invariant = { λ a. IsFree F.value F.called a.engine.now a.desk };
 }
 
-/// Takes turns at a desk until there is nothing left to do there.
-fn take_turns<F: ItemFn, G: Gate, R: Wait>(rt: &R, engine: &Engine<'_, F, G>, desk: &mut Desk<F>)
-    requires desk { IsDesk F.value F.called engine.now desk.old }
-    requires is_in { desk.old.is_in ≡ true }
-    ensures desk { IsDesk F.value F.called engine.now desk.new }
-    ensures out { desk.new.is_in ≡ false }
-{
-    for _ in rt.forever() {
-        match engine.step(rt, desk) {
-            Turn::Did(_) => {}
-            Turn::Exhausted | Turn::SawCanceled | Turn::Failed(_) | Turn::Memory => return,
-        }
-    }
-    unreachable!()
-}
-
 impl<'e, 'a, F: ItemFn, G: Gate> Place<'e, 'a, F, G> {
     /// A place at a free desk of an engine.
     pub fn new(engine: &'e Engine<'a, F, G>, desk: Desk<F>) -> Place<'e, 'a, F, G>
@@ -64,7 +47,7 @@ impl<'e, 'a, F: ItemFn, G: Gate> Place<'e, 'a, F, G> {
         if self.engine.may_start(&mut self.desk) {
             slot.start_next(rt, pool);
         }
-        take_turns(rt, self.engine, &mut self.desk);
+        self.engine.work(rt, &mut self.desk);
     }
 
     /// The desk.

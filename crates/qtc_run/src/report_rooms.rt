@@ -3,7 +3,7 @@
 use crate::{Placed, Report};
 use qtc_base::{Bytes, List};
 use qtc_future::Outcome;
-use qtc_job::JobFile;
+use qtc_job_file::JobFile;
 
 /// The most bytes of the line of an event: two numbers of ten digits.
 const EVENT_ROOM: usize = b"event ready  \n".len() + 20;

@@ -8,7 +8,7 @@ use crate::{JobReport, Placed, Report};
 use qtc_base::{Bytes, List, NoMemory, decimal, escape};
 use qtc_events::{Event, event_text};
 use qtc_future::Outcome;
-use qtc_job::JobFile;
+use qtc_job_file::JobFile;
 use std::alloc::Global;
 
 /// Appends the line of a value.

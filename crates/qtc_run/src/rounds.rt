@@ -13,7 +13,7 @@ use crate::places::Place;
 use crate::slots::Slot;
 use crate::{JobReport, Report};
 use qtc_base::{Items, List, NoMemory, Value};
-use qtc_job::Job;
+use qtc_job_file::Job;
 use qtc_kernel::{Desk, Engine, Finished, Plan};
 use qtc_ops::{ItemFn, ItemOp, OpFn};
 use qtc_outside::Gate;
@@ -244,7 +244,7 @@ fn finish_all<'e, 'a, F: ItemFn + Drop, G: Gate, R: Wait>(
     engines: &[Engine<'a, F, G>],
     places: Vec<Place<'e, 'a, F, G>>,
     workers: u32,
-) -> Result<Vec<Finished>, NoMemory>
+) -> Result<Vec<Finished<F>>, NoMemory>
     requires places { places.items ≡ each_times workers engines.now }
     requires workers { All (λ crew. crew.counter.workers ≡ workers) engines.now }
     ensures { IfOk result (λ finished. EachPair (HasDone F.value) engines.now finished.items) }
@@ -265,7 +265,7 @@ fn report_all<'a, F: ItemFn + Drop, G: Gate, R: Wait>(
     rt: &R,
     sources: &[Source<'_>],
     engines: Vec<Engine<'a, F, G>>,
-    finished: Vec<Finished>,
+    finished: Vec<Finished<F>>,
     workers: u32,
 ) -> Result<List<JobReport>, NoMemory>
     requires ready { All IsReady sources.now }

@@ -1,7 +1,7 @@
 ghost use Rattle.std.specs.Prelude.{◌≡◌};
 ghost use Rattle.qtc_run.specs.Runnable.{are_runnable, is_runnable as is_runnable_job, reads_texts as reads_texts_only};
 
-use qtc_job::{Input, Job, JobFile};
+use qtc_job_file::{Input, Job, JobFile};
 
 /// Whether an input is of texts.
 fn reads_texts(input: &Input) -> bool

@@ -8,7 +8,7 @@ ghost use Rattle.qtc_run.specs.Sums.{IsSizeOf, IsSized};
 
 use crate::Loaded;
 use qtc_base::Bytes;
-use qtc_job::Input;
+use qtc_job_file::Input;
 
 /// How many items there are, and how many bytes they have together.
 #[derive(Clone, Copy)]

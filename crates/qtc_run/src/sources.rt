@@ -9,20 +9,8 @@ ghost use Rattle.qtc_run.specs.Sums.{IsSized};
 use crate::Loaded;
 use crate::sizes::Size;
 use qtc_base::{Bytes, Items, NoMemory, PushFault, line_parts};
-use qtc_job::Input;
+use qtc_job_file::Input;
 use std::alloc::Global;
-use std::slice;
-
-/// The names of the texts that an input names, in order.
-pub fn texts_named(input: &Input) -> &[Bytes]
-    ensures { result.now ≡ names_of input.now }
-{
-    match input {
-        Input::Lines(name) | Input::Pieces(_, name) => slice::from_ref(name),
-        Input::Files(names) => names.as_slice(),
-        Input::Job(_) | Input::All(_) | Input::Any(_) => &[],
-    }
-}
 
 /// Appends an item that the limits leave room for.
 fn append_item(item: &[u8], items: &mut Items) -> Result<(), NoMemory>

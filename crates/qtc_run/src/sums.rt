@@ -6,7 +6,7 @@ ghost use Rattle.qtc_run.specs.Sums.{CanCount, RefusesRun};
 use crate::sizes::{Size, size_of};
 use crate::{Loaded, RunFault};
 use qtc_base::{MOST_BYTES, MOST_ITEMS};
-use qtc_job::Job;
+use qtc_job_file::Job;
 use std::alloc::Global;
 
 /// The size of the items of each job, before one of them is made: whether all of them together stay within the limits.

@@ -11,7 +11,8 @@ use crate::{
 use qtc_base::{Bytes, List, NoMemory};
 use qtc_events::{Call, Entry, Event, Reached};
 use qtc_future::Outcome;
-use qtc_job::{Job, JobFile, parse};
+use qtc_job::parse;
+use qtc_job_file::{Job, JobFile};
 use qtc_outside::{Gate, NoGate};
 use qtc_pool_core::PoolEntry;
 use std::alloc::Global;

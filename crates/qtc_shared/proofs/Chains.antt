@@ -4,18 +4,20 @@ use Rattle.qtc_events.specs.Flags.{Standing}
 use Rattle.qtc_future.specs.Future.{Future, Logged}
 use Rattle.qtc_shared.specs.Journals.{BeginsWith, IsJournal, Saw, calls_by}
 use Rattle.qtc_shared.specs.Parts.{Terms, future_at}
-use Rattle.qtc_shared.specs.Passes.{FutureId, PassState, Meets, IsHold, IsLook, IsWatch, Finds, Stays}
+use Rattle.qtc_shared.specs.Passes.{FutureId, PassState, Meets, IsHold, IsLook, IsWatch, Finds, Stays, having_seen}
 use Rattle.qtc_shared.proofs.Prefixes.{saw_later, begins_same}
 
 -- whatever the pass meets now, it would have met before
 pub record Continues {V : Type 0} (old now : PassState V) : Type 0 where
   pub of : now.of ≡ old.of
   pub number : now.number ≡ old.number
+  pub looks : now.looks ≡ old.looks
+  pub children : now.children ≡ old.children
   pub met : (journal : List (Logged V)) → Meets now journal → Meets old journal
 
 module _ {V : Type 0} where
   pub continues_same : (pass : PassState V) → Continues pass pass
-  continues_same pass = record { of = refl; number = refl; met = λ journal met. met }
+  continues_same pass = record { of = refl; number = refl; looks = refl; children = refl; met = λ journal met. met }
 
   -- the journal of a hold in which nothing was done
   stays_at : (of : FutureId) (journal known : List (Logged V)) → Stays (future_at of.terms journal) (future_at of.terms known) → known ≡ journal
@@ -25,6 +27,8 @@ module _ {V : Type 0} where
   holds_continue old now hold = record {
     of = ap (λ p. p.of) hold.pass;
     number = ap (λ p. p.number) hold.pass;
+    looks = ap (λ p. p.looks) hold.pass;
+    children = ap (λ p. p.children) hold.pass;
     met = λ journal met.
         let known : now.known ≡ hold.journal = stays_at old.of hold.journal now.known hold.done in
         let grew : BeginsWith journal hold.journal = subst (λ xs. BeginsWith journal xs) known (subst (λ s. Saw now.known journal s) (ap (λ p. p.seen) hold.pass) met.saw) in
@@ -42,6 +46,8 @@ module _ {V : Type 0} where
   continues_further a b c first second = record {
     of = second.of ∙ first.of;
     number = second.number ∙ first.number;
+    looks = second.looks ∙ first.looks;
+    children = second.children ∙ first.children;
     met = λ journal met. first.met journal (second.met journal met);
   }
 
@@ -51,7 +57,7 @@ module _ {V : Type 0} where
     journal = hold.journal;
     met = goes_on.met hold.journal hold.met;
     done = subst (λ (f : FutureId). Does (future_at f.terms hold.journal) (future_at f.terms new.known)) goes_on.of hold.done;
-    pass = hold.pass ∙ (λ i. record { of = goes_on.of i; number = goes_on.number i; known = new.known; seen = [] });
+    pass = hold.pass ∙ (λ i. record { of = goes_on.of i; number = goes_on.number i; known = new.known; seen = []; looks = goes_on.looks i; children = goes_on.children i });
   }
 
   -- a look after others
@@ -61,15 +67,17 @@ module _ {V : Type 0} where
     met = look.met;
     now = look.now;
     before = [];
-    pass = look.pass ∙ ap (λ xs. record old { seen = xs ++ flags ∷ [] }) (sym (append-nil old.seen));
+    pass = look.pass;
   }
 
   pub look_further : (old now new : PassState V) (first flags : Standing) → IsWatch old now first → IsLook now new flags → IsWatch old new flags
-  look_further old now new first flags watch look = record {
-    journal = look.journal;
-    met = look.met;
-    now = look.now;
-    before = watch.before ++ first ∷ [];
-    pass = look.pass ∙ ap (λ (p : PassState V). record p { seen = p.seen ++ flags ∷ [] }) watch.pass
-        ∙ ap (λ xs. record old { seen = xs ++ flags ∷ [] }) (append_assoc old.seen watch.before (first ∷ []));
-  }
+  look_further old now new first flags watch look =
+      let more : (before : List Standing) → before ++ (watch.before ++ first ∷ []) ++ flags ∷ [] ≡ before ++ (watch.before ++ first ∷ [] ++ flags ∷ []) = λ before. append_assoc before (watch.before ++ first ∷ []) (flags ∷ []) in
+      record {
+        journal = look.journal;
+        met = look.met;
+        now = look.now;
+        before = watch.before ++ first ∷ [];
+        pass = look.pass ∙ ap (λ (p : PassState V). having_seen p (flags ∷ [])) watch.pass
+            ∙ (λ i. record old { seen = more old.seen i; looks = more old.looks i });
+      }

@@ -12,7 +12,7 @@ use Rattle.qtc_future.specs.declared.requests.Request.{Request}
 use Rattle.qtc_future.specs.declared.requests.Request.TheVariants.{SetSuspended}
 use Rattle.qtc_future.proofs.Legality.{journals_grow_by_one}
 use Rattle.qtc_shared.specs.Journals.{Follows, IsAllowed, is_makers}
-use Rattle.qtc_shared.specs.Parts.{Terms, future_at}
+use Rattle.qtc_shared.specs.Parts.{Terms, PassPart, future_at}
 use Rattle.qtc_shared.specs.Passes.{FutureId}
 use Rattle.qtc_shared.specs.Rule.{journal_in}
 use Rattle.qtc_shared.specs.Inside.{IsLentSeat, pass_in, number_in, journal_of}
@@ -71,9 +71,9 @@ module _ {V : Type 0} (terms : Terms) (number : ℕ) (journal : List (Logged V))
   try_after request core after told (Err e) is good tried = subst (IsAfter terms number journal) (sym (tried.err ∙ is)) same_after
 
 -- at the seat of a pass that is lent
-pub at_lent : {V : Type 0} (of : FutureId) (number made : ℕ) (journal : List (Logged V)) (seat : Seat (Unit {0}) (View V)) (after : Future V)
-    → IsLentSeat of number made journal seat → IsAfter of.terms number journal after → Follows of.terms (number_in seat) (journal_of seat) after.calls
-at_lent of number made journal seat after lent good =
-    let n : number_in seat ≡ number = ap (λ m. (pass_in m.0.passes).number) lent.me in
+pub at_lent : {V : Type 0} (of : FutureId) (pass : PassPart V) (made : ℕ) (journal : List (Logged V)) (seat : Seat (Unit {0}) (View V)) (after : Future V)
+    → IsLentSeat of pass made journal seat → IsAfter of.terms pass.number journal after → Follows of.terms (number_in seat) (journal_of seat) after.calls
+at_lent of pass made journal seat after lent good =
+    let n : number_in seat ≡ pass.number = ap (λ m. (pass_in m.0.passes).number) lent.me in
     let j : journal_of seat ≡ journal = ap (λ m. journal_in m.0.books) lent.me in
-    subst (λ x. Follows of.terms x (journal_of seat) after.calls) (sym n) (subst (λ x. Follows of.terms number x after.calls) (sym j) good.call)
+    subst (λ x. Follows of.terms x (journal_of seat) after.calls) (sym n) (subst (λ x. Follows of.terms pass.number x after.calls) (sym j) good.call)

@@ -5,3 +5,4 @@ pub mod Seats
 pub mod Follow
 pub mod Chains
 pub mod Staying
+pub mod Children

@@ -9,7 +9,7 @@ use Rattle.qtc_shared.specs.Journals.{IsAllowed, IsOfFirst, calls_by}
 use Rattle.qtc_shared.specs.Parts.{PassPart, BookPart}
 use Rattle.qtc_shared.specs.Passes.{FutureId, PassState}
 use Rattle.qtc_shared.specs.Passes as passes
-use Rattle.qtc_shared.specs.Rule.{view_with, terms_of, lent, Fits, IsBook, Knows}
+use Rattle.qtc_shared.specs.Rule.{view_with, terms_of, learned, lent, Fits, IsBook, Knows}
 use Rattle.qtc_shared.specs.Inside.{word_state, IsWord, IsPassSeat, IsLentSeat, state_of}
 use Rattle.qtc_shared.proofs.Prefixes.{none_by}
 use Rattle.qtc_shared.proofs.Steps.{made_before}
@@ -27,9 +27,9 @@ module _ {V : Type 0} (a : Inside V) (of : FutureId) (view_is : word_state a ≡
   pub pass_me : (pass : PassPart V) (seat : Seat (Unit {0}) (View V)) → IsPassSeat of pass seat → seat.me ≡ (view_with (terms_of a.table.shared.key) (pass ∷ []) [], [])
   pass_me pass seat is = is.me ∙ ap (λ t. (view_with t (pass ∷ []) [], [])) terms_are
 
-  pub lent_me : (number made : ℕ) (journal : List (Logged V)) (seat : Seat (Unit {0}) (View V)) → (is : IsLentSeat of number made journal seat)
-      → seat.me ≡ (view_with (terms_of a.table.shared.key) (record { number = number; known = journal; seen = [] } ∷ []) (record { journal = journal; made = made; ended = is.ended } ∷ []), [])
-  lent_me number made journal seat is = is.me ∙ ap (λ t. (view_with t (record { number = number; known = journal; seen = [] } ∷ []) (record { journal = journal; made = made; ended = is.ended } ∷ []), [])) terms_are
+  pub lent_me : (pass : PassPart V) (made : ℕ) (journal : List (Logged V)) (seat : Seat (Unit {0}) (View V)) → (is : IsLentSeat of pass made journal seat)
+      → seat.me ≡ (view_with (terms_of a.table.shared.key) (learned journal pass ∷ []) (record { journal = journal; made = made } ∷ []), [])
+  lent_me pass made journal seat is = is.me ∙ ap (λ t. (view_with t (learned journal pass ∷ []) (record { journal = journal; made = made } ∷ []), [])) terms_are
 
 -- a pass and the book at one seat
 module _ {V : Type 0} (of : FutureId) (pass : PassPart V) (book : BookPart V) where

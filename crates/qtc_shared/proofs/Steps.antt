@@ -16,8 +16,8 @@ use Rattle.qtc_shared.specs.declared.rule.View.{View}
 use Rattle.qtc_shared.specs.declared.rule.Opening.{Opening}
 use Rattle.qtc_shared.specs.Journals.{IsAllowed, IsJournal, Shows, Grew, Follows}
 use Rattle.qtc_shared.specs.Parts.{Terms, PassPart, BookPart, future_at}
-use Rattle.qtc_shared.specs.Limits.{most_passes}
-use Rattle.qtc_shared.specs.Rule.{no_terms, view_with, nothing, Fits, IsBook, IsRight, numbered, book_count, AddsUp, Holds, terms_of, IsKept, Knows, first_pass, first_book, first_view, saw_flags, looked, learned, shown, entered, rewritten, lent, pass_only, book_only, one_more, counted_on, made_pass, made_from, ended_in, taken_in, Looks, Meets, Enters}
+use Rattle.qtc_base.specs.Limits.{most_passes}
+use Rattle.qtc_shared.specs.Rule.{no_terms, view_with, nothing, Fits, IsBook, IsRight, numbered, book_count, AddsUp, Holds, terms_of, IsKept, Knows, first_pass, first_book, first_view, saw_flags, looked, learned, shown, entered, rewritten, lent, pass_only, book_only, one_more, with_child, counted_on, made_pass, made_from, Looks, Meets, Enters}
 use Rattle.qtc_shared.proofs.Prefixes.{fits_learned, fits_later, fits_look}
 use Rattle.qtc_shared.proofs.Places.{one_within, two_within, All-set_else}
 
@@ -171,8 +171,8 @@ module _ {V : Type 0} (terms : Terms) (id : ℕ) (pass : PassPart V) (book : Boo
   no_book P (b ∷ books) none = absurd (omega arith)
 
   -- the number of the pass is one that was made
-  is_made : (number made : ℕ) (ended total : ℕ) → ((0 + 1) + (0 + (ended + cond (in_range number (made, most_passes)) 1 0))) ≤ cond (nat_lt number most_passes) 1 0 → number < made
-  is_made number made ended total few = grind (arith, nat_tests)
+  is_made : (number made : ℕ) → ((0 + 1) + (0 + cond (in_range number (made, most_passes)) 1 0)) ≤ cond (nat_lt number most_passes) 1 0 → number < made
+  is_made number made few = grind (arith, nat_tests)
 
   counts_self : (number : ℕ) → number ≡ pass.number → count_by (λ (p : PassPart V). p.number == number) (pass ∷ []) ≡ 1
   counts_self number is = let one = counted_one pass.number number (sym is) in omega arith
@@ -181,7 +181,7 @@ module _ {V : Type 0} (terms : Terms) (id : ℕ) (pass : PassPart V) (book : Boo
   made_before word knows =
       let few = knows.numbers pass.number in
       let self = counts_self pass.number refl in
-      is_made pass.number book.made (count_by (λ (ended : ℕ). ended == pass.number) book.ended) 0 (omega arith)
+      is_made pass.number book.made (omega arith)
 
   enter_keeps : (journal : List (Logged V)) (logged : Logged V) (word : ℕ) (views : List (View V)) → logged.entry.caller ≡ pass.number → IsAllowed terms.makers logged → IsJournal terms (journal ++ logged ∷ [])
       → Shows journal word → Holds terms journal views → get_elem? views id ≡ some lent_view → Holds terms (journal ++ logged ∷ []) (set views id (entered (journal ++ logged ∷ []) lent_view))
@@ -349,16 +349,19 @@ module _ {V : Type 0} (key : Opening V) (id : ℕ) where
   next_covered : (number made : ℕ) → made < most_passes → cond {A = ℕ} (in_range number (made + 1, most_passes)) 1 0 + cond {A = ℕ} (made == number) 1 0 ≡ cond (in_range number (made, most_passes)) 1 0
   next_covered number made room = grind (arith, nat_tests)
 
+  book_grown : (journal : List (Logged V)) (book : BookPart V) → IsBook journal book → book.made < most_passes → IsBook journal (one_more book)
+  book_grown journal book is_book room = record {
+    same = is_book.same;
+    few = omega arith;
+    callers = All-weaker (λ (l : Logged V). l.entry.caller < book.made) (λ (l : Logged V). l.entry.caller < book.made + 1) (λ l below. omega arith) journal is_book.callers;
+  }
+
   makes' : (terms : Terms) (book : BookPart V) → book.made < most_passes
       → Splits (IsKept key) id (view_with terms [] (book ∷ [])) (counted_on (view_with terms [] (book ∷ []))) (made_from (view_with terms [] (book ∷ [])))
   makes' terms book room = split (view_with terms [] (book ∷ [])) (counted_on (view_with terms [] (book ∷ []))) (made_from (view_with terms [] (book ∷ [])))
       (λ journal right.
       let is_book = All-head (IsBook journal) book [] right.books in (
-        right_book journal terms (one_more book) (record {
-          same = is_book.same;
-          few = omega arith;
-          callers = All-weaker (λ (l : Logged V). l.entry.caller < book.made) (λ (l : Logged V). l.entry.caller < book.made + 1) (λ l below. omega arith) journal is_book.callers;
-        }),
+        right_book journal terms (one_more book) (book_grown journal book is_book room),
         right_pass journal terms (made_pass book) (subst (λ j. Fits journal (learned j (made_pass book))) (sym is_book.same) (fits_learned journal (made_pass book))),
       ))
       (λ number. let covered = next_covered number book.made room in omega arith)
@@ -367,27 +370,25 @@ module _ {V : Type 0} (key : Opening V) (id : ℕ) where
   pub makes : (v : View V) (terms : Terms) (book : BookPart V) → v ≡ view_with terms [] (book ∷ []) → book.made < most_passes → Splits (IsKept key) id v (counted_on v) (made_from v)
   makes v terms book is room = subst (λ x. Splits (IsKept key) id x (counted_on x) (made_from x)) (sym is) (makes' terms book room)
 
-  -- a pass ends
-  ended_more : (number : ℕ) (ended : List ℕ) (last : ℕ) → count_by (λ (n : ℕ). n == number) (ended ++ last ∷ []) ≡ count_by (λ (n : ℕ). n == number) ended + cond {A = ℕ} (last == number) 1 0
-  ended_more number ended last =
-      let parts = sum_by-append (λ (n : ℕ). cond {A = ℕ} (n == number) 1 0) ended (last ∷ []) in
-      omega (arith, parts)
-
-  ends' : (terms terms' : Terms) (book : BookPart V) (other : ℕ) (pass : PassPart V)
-      → Joins (IsKept key) id (view_with terms [] (book ∷ [])) other (view_with terms' (pass ∷ []) []) (taken_in (view_with terms [] (book ∷ [])) (view_with terms' (pass ∷ []) [])) (nothing no_terms)
-  ends' terms terms' book other pass = joined (view_with terms [] (book ∷ [])) other (view_with terms' (pass ∷ []) []) (taken_in (view_with terms [] (book ∷ [])) (view_with terms' (pass ∷ []) []))
-      (λ journal v w. let is_book = All-head (IsBook journal) book [] v.books in right_book journal terms (ended_in (pass ∷ []) book) (record { same = is_book.same; few = is_book.few; callers = is_book.callers }))
-      (λ number. let more = ended_more number book.ended pass.number in omega arith)
+  -- a child of the pass that is lent
+  makes_child' : (terms : Terms) (pass : PassPart V) (book : BookPart V) → book.made < most_passes
+      → Splits (IsKept key) id (view_with terms (pass ∷ []) (book ∷ [])) (counted_on (view_with terms (pass ∷ []) (book ∷ []))) (made_from (view_with terms (pass ∷ []) (book ∷ [])))
+  makes_child' terms pass book room = split (view_with terms (pass ∷ []) (book ∷ [])) (counted_on (view_with terms (pass ∷ []) (book ∷ []))) (made_from (view_with terms (pass ∷ []) (book ∷ [])))
+      (λ journal right.
+      let fits = All-head (Fits journal) pass [] right.passes in
+      let is_book = All-head (IsBook journal) book [] right.books in (
+        right_lent journal terms (with_child pass) (one_more book) (record { saw = fits.saw; own = fits.own }) (book_grown journal book is_book room),
+        right_pass journal terms (made_pass book) (subst (λ j. Fits journal (learned j (made_pass book))) (sym is_book.same) (fits_learned journal (made_pass book))),
+      ))
+      (λ number. let covered = next_covered number book.made room in omega arith)
       refl
 
-  pub ends : (v : View V) (other : ℕ) (w : View V) (terms terms' : Terms) (book : BookPart V) (pass : PassPart V) → v ≡ view_with terms [] (book ∷ []) → w ≡ view_with terms' (pass ∷ []) []
-      → Joins (IsKept key) id v other w (taken_in v w) (nothing no_terms)
-  ends v other w terms terms' book pass v_is w_is =
-      subst (λ x. Joins (IsKept key) id x other w (taken_in x w) (nothing no_terms)) (sym v_is)
-      (subst (λ y. Joins (IsKept key) id (view_with terms [] (book ∷ [])) other y (taken_in (view_with terms [] (book ∷ [])) y) (nothing no_terms)) (sym w_is) (ends' terms terms' book other pass))
+  pub makes_child : (v : View V) (terms : Terms) (pass : PassPart V) (book : BookPart V) → v ≡ view_with terms (pass ∷ []) (book ∷ []) → book.made < most_passes
+      → Splits (IsKept key) id v (counted_on v) (made_from v)
+  makes_child v terms pass book is room = subst (λ x. Splits (IsKept key) id x (counted_on x) (made_from x)) (sym is) (makes_child' terms pass book room)
 
 -- ---- the beginning
-first_numbers : (number : ℕ) → ((0 + cond {A = ℕ} (0 == number) 1 0) + (0 + (0 + cond {A = ℕ} (in_range number (1, most_passes)) 1 0))) ≡ cond (nat_lt number most_passes) 1 0
+first_numbers : (number : ℕ) → ((0 + cond {A = ℕ} (0 == number) 1 0) + (0 + cond {A = ℕ} (in_range number (1, most_passes)) 1 0)) ≡ cond (nat_lt number most_passes) 1 0
 first_numbers number = grind (arith, nat_tests)
 
 pub begins : {V : Type 0} (key : Opening V) (word : ℕ) → Shows key.core.calls word → IsJournal (terms_of key) key.core.calls → All (λ (l : Logged V). l.entry.caller < 1) key.core.calls

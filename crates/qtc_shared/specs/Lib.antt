@@ -1,4 +1,3 @@
-pub mod Limits
 pub mod Journals
 pub mod Parts
 pub mod Passes

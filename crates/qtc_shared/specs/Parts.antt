@@ -14,14 +14,16 @@ pub record Terms : Type 0 where
 abbrev pub future_at : {V : Type 0} → Terms → List (Logged V) → Future V
 future_at terms journal = record { filter = terms.filter; thresholds = terms.thresholds; calls = journal }
 
--- a pass: its number, the journal that it knows, and the flags that it saw since, in order
+-- a pass: its number, the journal that it knows, and the flags that it saw since, in order; the flags that it ever saw,
+-- and how many passes were made from it
 pub record PassPart (V : Type 0) : Type 0 where
   pub number : ℕ
   pub known : List (Logged V)
   pub seen : List Standing
+  pub looks : List Standing
+  pub children : ℕ
 
--- the book: the journal, how many passes were made, and the numbers of those that ended
+-- the book: the journal, and how many passes were made
 pub record BookPart (V : Type 0) : Type 0 where
   pub journal : List (Logged V)
   pub made : ℕ
-  pub ended : List ℕ

@@ -1,6 +1,6 @@
 -- What contracts see of a shared future and of a pass, and what a hold and a look do to a pass. (After QFuture and
 -- QPromise; passes are own.)
-use Rattle.std.specs.Prelude.{◌≡◌, ◌<◌, ◌↔◌, ℕ, Bool, true, false, List, [], ◌∷◌, ◌++◌, Option, Some, Result, Ok, IsTrue, IsOk, IfOk, IfNone, OnErr, MatchBool, length, slice_get, count_by}
+use Rattle.std.specs.Prelude.{◌≡◌, ◌<◌, ◌↔◌, ◌+◌, ℕ, Bool, true, false, List, [], ◌∷◌, ◌++◌, Option, None, Some, Result, Ok, IsTrue, IsOk, IfOk, IfNone, IfSome, OnErr, MatchBool, length, slice_get, count_by}
 use Rattle.atomic_table.specs.Seated.{TableId}
 use Rattle.qtc_base.specs.declared.memory.NoMemory.{NoMemory}
 use Rattle.qtc_events.specs.Flags.{Standing, flags_in}
@@ -21,16 +21,24 @@ pub record FutureId : Type 0 where
   pub table : TableId
   pub terms : Terms
 
--- a pass of the future: its number, the journal that it knows, and the flags that it saw since, in order
+-- a pass of the future: its number, the journal that it knows, and the flags that it saw since, in order; the flags of
+-- all looks that it ever made, in order, and how many passes were made from it
 pub record PassState (V : Type 0) : Type 0 where
   pub of : FutureId
   pub number : ℕ
   pub known : List (Logged V)
   pub seen : List Standing
+  pub looks : List Standing
+  pub children : ℕ
 
--- a pass that knows this journal, and saw nothing since
+-- a new pass that knows this journal: it made no look, and none was made from it
 abbrev pub pass_at : {V : Type 0} → FutureId → ℕ → List (Logged V) → PassState V
-pass_at of number journal = record { of = of; number = number; known = journal; seen = [] }
+pass_at of number journal =
+    record { of = of; number = number; known = journal; seen = []; looks = []; children = 0 }
+
+-- the pass has seen these flags, one after the other
+abbrev pub having_seen : {V : Type 0} → PassState V → List Standing → PassState V
+having_seen pass seen = record pass { seen = pass.seen ++ seen; looks = pass.looks ++ seen }
 
 -- a journal of the future, as the pass meets it
 pub record Meets {V : Type 0} (pass : PassState V) (journal : List (Logged V)) : Type 0 where
@@ -91,7 +99,7 @@ pub record IsLook {V : Type 0} (old new : PassState V) (flags : Standing) : Type
   pub journal : List (Logged V)
   pub met : Meets new journal
   pub now : flags ≡ flags_at journal
-  pub pass : new ≡ record old { seen = old.seen ++ flags ∷ [] }
+  pub pass : new ≡ having_seen old (flags ∷ [])
 
 -- the same, of which something is told
 abbrev pub Sees : {V : Type 0} → (old new : PassState V) → (Standing → Type 0) → Type 0
@@ -103,17 +111,22 @@ pub record IsWatch {V : Type 0} (old new : PassState V) (flags : Standing) : Typ
   pub met : Meets new journal
   pub now : flags ≡ flags_at journal
   pub before : List Standing
-  pub pass : new ≡ record old { seen = old.seen ++ before ++ flags ∷ [] }
+  pub pass : new ≡ having_seen old (before ++ flags ∷ [])
 
 -- no suspension stands
 pub record IsResumed (flags : Standing) : Type 0 where
   pub suspending : flags.suspending ≡ false
   pub suspended : flags.suspended ≡ false
 
--- what a wait for a result finds: the result, or none where Canceled or Finished stands
-abbrev pub IsAwaited : {V : Type 0} → ℕ → Result (Option V) NoMemory → Future V → Type 0
-IsAwaited index result future =
-    IfOk result (λ value. (value ≡ value_at (results_of future) index) × IfNone value (IsTrue (has_ended future)))
+-- what a copy of a result is: that at the index; where there is none it wants no memory
+pub record IsCopied {V : Type 0} (index : ℕ) (result : Result (Option V) NoMemory) (future : Future V) : Type 0 where
+  pub ok : IfOk result (λ value. value ≡ value_at (results_of future) index)
+  pub sure : value_at (results_of future) index ≡ None → IsOk result
+
+-- what a wait for a result finds: that copy, and none only where Canceled or Finished stands
+pub record IsAwaited {V : Type 0} (index : ℕ) (result : Result (Option V) NoMemory) (future : Future V) : Type 0 where
+  pub copied : IsCopied index result future
+  pub ended : IfOk result (λ value. IfNone value (IsTrue (has_ended future)))
 
 -- that the work stands still is reported where Suspending stands: a look, and then a hold where that flag stood
 pub record IsReport {V : Type 0} (old new : PassState V) (answer : Result Bool NoMemory) : Type 0 where
@@ -140,6 +153,13 @@ pub record IsEnding {V : Type 0} (old new : PassState V) : Type 0 where
   pub cancel : IsHold old between (Makes old Cancel (Effect canceled))
   pub finished : Bool
   pub finish : IsHold between new (Makes between Finish (Effect finished))
+
+-- another pass was made from a pass, or there was none to make: one hold in which nothing was done, and one child more
+pub record IsParent {V : Type 0} (old new : PassState V) (made : Option (PassState V)) : Type 0 where
+  pub held : PassState V
+  pub hold : IsHold old held Stays
+  pub none : IfNone made (new ≡ held)
+  pub some : IfSome made (λ child. new ≡ record held { children = held.children + 1 })
 
 -- a core that is shared: on which terms, with how many passes, each of which knows the core's journal
 pub record IsShared {V : Type 0} (core : Future V) (makers count : ℕ) (future : FutureId)

@@ -5,7 +5,7 @@ use Rattle.qtc_base.specs.Ranges.{in_range}
 use Rattle.qtc_events.specs.Flags.{Standing, flags_in}
 use Rattle.qtc_future.specs.Future.{Logged}
 use Rattle.qtc_shared.specs.Journals.{IsJournal, Saw, Shows, calls_by}
-use Rattle.qtc_shared.specs.Limits.{most_passes}
+use Rattle.qtc_base.specs.Limits.{most_passes}
 use Rattle.qtc_shared.specs.Parts.{Terms, PassPart, BookPart}
 use Rattle.qtc_shared.specs.declared.rule.View.{View}
 use Rattle.qtc_shared.specs.declared.rule.Opening.{Opening}
@@ -43,10 +43,9 @@ pub record IsRight {V : Type 0} (journal : List (Logged V)) (view : View V) : Ty
   pub books : All (IsBook journal) view.books
 
 module _ {V : Type 0} where
-  -- how often the book has the number: as that of a pass that ended, or as one that no pass was given yet
+  -- how often the book has the number, as one that no pass was given yet
   abbrev pub kept_in : ℕ → BookPart V → ℕ
-  kept_in number book =
-      count_by (λ ended. ended == number) book.ended + cond (in_range number (book.made, most_passes)) 1 0
+  kept_in number book = cond (in_range number (book.made, most_passes)) 1 0
 
   -- how often the view has it, as that of a pass or in the book
   abbrev pub numbered : ℕ → View V → ℕ
@@ -90,17 +89,17 @@ pub record Knows {V : Type 0} (view : View V) (word : ℕ) : Type 0 where
 module _ {V : Type 0} where
   -- at the beginning the first pass is lent to the book
   abbrev pub first_pass : List (Logged V) → PassPart V
-  first_pass journal = record { number = 0; known = journal; seen = [] }
+  first_pass journal = record { number = 0; known = journal; seen = []; looks = []; children = 0 }
 
   abbrev pub first_book : List (Logged V) → BookPart V
-  first_book journal = record { journal = journal; made = 1; ended = [] }
+  first_book journal = record { journal = journal; made = 1 }
 
   abbrev pub first_view : Opening V → View V
   first_view key = view_with (terms_of key) (first_pass key.core.calls ∷ []) (first_book key.core.calls ∷ [])
 
   -- a pass sees the flags
   abbrev pub saw_flags : Standing → PassPart V → PassPart V
-  saw_flags flags pass = record pass { seen = pass.seen ++ flags ∷ [] }
+  saw_flags flags pass = record pass { seen = pass.seen ++ flags ∷ []; looks = pass.looks ++ flags ∷ [] }
 
   abbrev pub looked : Standing → View V → View V
   looked flags view = record view { passes = map (saw_flags flags) view.passes }
@@ -138,28 +137,21 @@ module _ {V : Type 0} where
   abbrev pub book_only : View V → View V
   book_only view = record view { passes = [] }
 
-  -- the book makes a pass with the next number, which knows the journal
+  -- the book makes a pass with the next number, which knows the journal: a child of the pass that is lent
   abbrev pub one_more : BookPart V → BookPart V
   one_more book = record book { made = book.made + 1 }
 
+  abbrev pub with_child : PassPart V → PassPart V
+  with_child pass = record pass { children = pass.children + 1 }
+
   abbrev pub counted_on : View V → View V
-  counted_on view = record view { books = map one_more view.books }
+  counted_on view = record view { passes = map with_child view.passes; books = map one_more view.books }
 
   abbrev pub made_pass : BookPart V → PassPart V
-  made_pass book = record { number = book.made; known = book.journal; seen = [] }
+  made_pass book = record { number = book.made; known = book.journal; seen = []; looks = []; children = 0 }
 
   abbrev pub made_from : View V → View V
   made_from view = record view { passes = map made_pass view.books; books = [] }
-
-  abbrev pub number_of : PassPart V → ℕ
-  number_of pass = pass.number
-
-  -- a pass ends: the book keeps its number
-  abbrev pub ended_in : List (PassPart V) → BookPart V → BookPart V
-  ended_in passes book = record book { ended = book.ended ++ map number_of passes }
-
-  abbrev pub taken_in : View V → View V → View V
-  taken_in view other = record view { books = map (ended_in other.passes) view.books }
 
 -- What the steps on the word tell.
 

@@ -1,15 +1,16 @@
 //! The flag word of a shared future, and what passes and the book do at it.
-ghost use Rattle.std.specs.Prelude.{ℕ, ◌≡◌, ◌<◌, ◌≤◌, ◌+◌, [], ◌∷◌, All, Some, MatchOption, IfOk, length, slice_get, vec_capacity};
+ghost use Rattle.std.specs.Prelude.{ℕ, ◌≡◌, ◌<◌, ◌≤◌, ◌+◌, [], ◌∷◌, All, Some, MatchOption, IfNone, IfSome, IfOk, length, slice_get, vec_capacity};
 ghost use Rattle.qtc_events.specs.Flags.{flags_in};
 ghost use Rattle.qtc_shared.specs.Journals.{Follows, IsOfFirst, Shows, calls_by};
 ghost use Rattle.qtc_shared.specs.Parts.{future_at};
-ghost use Rattle.qtc_shared.specs.Limits.{most_passes};
+ghost use Rattle.qtc_base.specs.Limits.{most_passes};
 ghost use Rattle.qtc_shared.specs.Passes.{Meets, IsLook, pass_at};
-ghost use Rattle.qtc_shared.specs.Inside.{IsPassSeat, IsBookOf, IsLentSeat, state_of, pass_in, number_in, journal_of, knowing};
+ghost use Rattle.qtc_shared.specs.Inside.{IsPassSeat, IsBookOf, IsLentSeat, state_of, pass_at_seat, number_in, journal_of};
+ghost use Rattle.qtc_shared.specs.Rule.{learned, with_child};
 
 use crate::Pass;
-use crate::book::{Book, Made};
-use crate::rule::{End, Enter, HandBack, Law, Lend, Look, Make, Meet, Names, Opening, View};
+use crate::guarded::{Guarded, Made};
+use crate::rule::{Enter, FutureRule, HandBack, Lend, Look, Make, Meet, Names, Opening, View};
 use atomic_table::{Seat, Table};
 use qtc_base::NoMemory;
 use qtc_events::Flags;
@@ -21,7 +22,7 @@ use std::sync::Wait;
 /// One word, which shows the flags, and the rule that ties it to the journal.
 #[derive(Drop)]
 pub struct FlagWord<V> {
-    pub table: Table<(), View<V>, Opening<V>, Law, Global>,
+    pub table: Table<(), View<V>, Opening<V>, FutureRule, Global>,
 }
 
 impl<V> Model for FlagWord<V> {
@@ -47,10 +48,10 @@ pub struct Lent<V> {
 impl<V> FlagWord<V> {
     /// A pass looks at the flags.
     pub fn look(&self, seat: &mut Seat<(), View<V>>) -> Flags
-        requires { IsPassSeat self.now (pass_in seat.old.me.0.passes) seat.old }
-        ensures seat { IsPassSeat self.now (pass_in seat.new.me.0.passes) seat.new }
-        ensures look { IsLook (state_of self.now (pass_in seat.old.me.0.passes))
-            (state_of self.now (pass_in seat.new.me.0.passes)) (flags_in result.bits) }
+        requires { IsPassSeat self.now (pass_at_seat seat.old) seat.old }
+        ensures seat { IsPassSeat self.now (pass_at_seat seat.new) seat.new }
+        ensures look { IsLook (state_of self.now (pass_at_seat seat.old))
+            (state_of self.now (pass_at_seat seat.new)) (flags_in result.bits) }
     {
         let word = self.table.shared.load::<Look>(seat, 0);
         Flags { bits: word as u32 }
@@ -67,17 +68,17 @@ impl<V> FlagWord<V> {
     }
 
     /// Lends a pass to the book, which shows it the journal.
-    pub fn lend(&self, book: Book<V>, seat: &mut Seat<(), View<V>>) -> Lent<V>
+    pub fn lend(&self, book: Guarded<V>, seat: &mut Seat<(), View<V>>) -> Lent<V>
         requires book { IsBookOf self.now book }
-        requires pass { IsPassSeat self.now (pass_in seat.old.me.0.passes) seat.old }
+        requires pass { IsPassSeat self.now (pass_at_seat seat.old) seat.old }
         ensures core { result.core ≡ book.core }
         ensures made { result.made ≡ book.made }
-        ensures seat { IsLentSeat self.now (number_in seat.old) book.made.count book.core.value.calls seat.new }
-        ensures met { Meets (state_of self.now (pass_in seat.old.me.0.passes)) book.core.value.calls }
+        ensures seat { IsLentSeat self.now (pass_at_seat seat.old) book.made.count book.core.value.calls seat.new }
+        ensures met { Meets (state_of self.now (pass_at_seat seat.old)) book.core.value.calls }
         ensures number { number_in seat.old < book.made.count }
         ensures fresh { calls_by book.made.count book.core.value.calls ≡ [] }
     {
-        let Book {
+        let Guarded {
             core,
             made,
             seat: book,
@@ -89,13 +90,13 @@ impl<V> FlagWord<V> {
 
     /// The word comes to show the flags of the core again, whose journal may have got a call of the pass that is
     /// lent; then the pass and the book are two again. Says also whether the word changed.
-    pub fn enter(&self, lent: Lent<V>, seat: &mut Seat<(), View<V>>) -> (Book<V>, bool)
-        requires seat { IsLentSeat self.now (number_in seat.old) lent.made.count (journal_of seat.old) seat.old }
+    pub fn enter(&self, lent: Lent<V>, seat: &mut Seat<(), View<V>>) -> (Guarded<V>, bool)
+        requires seat { IsLentSeat self.now (pass_at_seat seat.old) lent.made.count (journal_of seat.old) seat.old }
         requires core { lent.core.value ≡ future_at self.now.terms lent.core.value.calls }
         requires call { Follows self.now.terms (number_in seat.old) (journal_of seat.old) lent.core.value.calls }
         ensures book { IsBookOf self.now result.0 }
         ensures core { result.0.core ≡ lent.core }
-        ensures seat { IsPassSeat self.now (knowing (number_in seat.old) lent.core.value.calls) seat.new }
+        ensures seat { IsPassSeat self.now (learned lent.core.value.calls (pass_at_seat seat.old)) seat.new }
     {
         let word = lent.core.flags().bits as u64;
         let changed = word != lent.word;
@@ -112,11 +113,11 @@ impl<V> FlagWord<V> {
         seat: &mut Seat<(), View<V>>,
     )
         requires journal { N.journal ≡ core.now.calls }
-        requires seat { IsLentSeat self.now (number_in seat.old) made.count (journal_of seat.old) seat.old }
+        requires seat { IsLentSeat self.now (pass_at_seat seat.old) made.count (journal_of seat.old) seat.old }
         requires core { core.now ≡ future_at self.now.terms core.now.calls }
         requires call { Follows self.now.terms (number_in seat.old) (journal_of seat.old) core.now.calls }
         requires word { Shows core.now.calls word }
-        ensures { IsLentSeat self.now (number_in seat.old) made.count core.now.calls seat.new }
+        ensures { IsLentSeat self.now (pass_at_seat seat.old) made.count core.now.calls seat.new }
     {
         // What a core has is legal.
         let _legal = core.journal();
@@ -124,13 +125,13 @@ impl<V> FlagWord<V> {
     }
 
     /// The pass that is lent and the book are two again, where the core is as it was.
-    pub fn hand_back(&self, lent: Lent<V>, seat: &mut Seat<(), View<V>>) -> Book<V>
-        requires seat { IsLentSeat self.now (number_in seat.old) lent.made.count lent.core.value.calls seat.old }
+    pub fn hand_back(&self, lent: Lent<V>, seat: &mut Seat<(), View<V>>) -> Guarded<V>
+        requires seat { IsLentSeat self.now (pass_at_seat seat.old) lent.made.count lent.core.value.calls seat.old }
         requires core { lent.core.value ≡ future_at self.now.terms lent.core.value.calls }
         ensures book { IsBookOf self.now result }
         ensures core { result.core ≡ lent.core }
         ensures made { result.made ≡ lent.made }
-        ensures seat { IsPassSeat self.now (knowing (number_in seat.old) lent.core.value.calls) seat.new }
+        ensures seat { IsPassSeat self.now (learned lent.core.value.calls (pass_at_seat seat.old)) seat.new }
     {
         let Lent {
             core,
@@ -138,18 +139,18 @@ impl<V> FlagWord<V> {
             word: _,
         } = lent;
         let seat = self.table.shared.split_seat::<HandBack>(seat);
-        Book { core, made, seat }
+        Guarded { core, made, seat }
     }
 
     /// Shows a pass the journal.
-    pub fn show(&self, book: Book<V>, seat: &mut Seat<(), View<V>>) -> Book<V>
+    pub fn show(&self, book: Guarded<V>, seat: &mut Seat<(), View<V>>) -> Guarded<V>
         requires book { IsBookOf self.now book }
-        requires pass { IsPassSeat self.now (pass_in seat.old.me.0.passes) seat.old }
+        requires pass { IsPassSeat self.now (pass_at_seat seat.old) seat.old }
         ensures book { IsBookOf self.now result }
         ensures core { result.core ≡ book.core }
         ensures made { result.made ≡ book.made }
-        ensures seat { IsPassSeat self.now (knowing (number_in seat.old) book.core.value.calls) seat.new }
-        ensures met { Meets (state_of self.now (pass_in seat.old.me.0.passes)) book.core.value.calls }
+        ensures seat { IsPassSeat self.now (learned book.core.value.calls (pass_at_seat seat.old)) seat.new }
+        ensures met { Meets (state_of self.now (pass_at_seat seat.old)) book.core.value.calls }
         ensures number { number_in seat.old < book.made.count }
         ensures fresh { calls_by book.made.count book.core.value.calls ≡ [] }
     {
@@ -157,8 +158,24 @@ impl<V> FlagWord<V> {
         self.hand_back(lent, seat)
     }
 
-    /// Makes the next pass, which knows the journal. None exactly where all were made.
-    pub fn make(&self, book: &mut Book<V>) -> Option<Pass<V>>
+    /// Makes the next pass, which knows the journal: a child of the pass that is lent. None exactly where all were
+    /// made.
+    pub fn make(&self, made: &mut Made, seat: &mut Seat<(), View<V>>) -> Option<Pass<V>>
+        requires { IsLentSeat self.now (pass_at_seat seat.old) made.old.count (journal_of seat.old) seat.old }
+        ensures none { IfNone result ((made.old.count ≡ most_passes) × (made.new ≡ made.old)) }
+        ensures still { IfNone result (seat.new ≡ seat.old) }
+        ensures pass { IfSome result (λ pass. (pass ≡ pass_at self.now made.old.count (journal_of seat.old))
+            × (made.new.count ≡ made.old.count + 1)) }
+        ensures seat { IfSome result (λ _. IsLentSeat self.now (with_child (pass_at_seat seat.old)) made.new.count
+            (journal_of seat.old) seat.new) }
+    {
+        let number = made.next()?;
+        let seat = self.table.shared.split_seat::<Make>(seat);
+        Some(Pass { seat, number })
+    }
+
+    /// Makes one of the first passes, which is the child of none. None exactly where all were made.
+    fn make_first(&self, book: &mut Guarded<V>) -> Option<Pass<V>>
         requires { IsBookOf self.now book.old }
         ensures book { IsBookOf self.now book.new }
         ensures core { book.new.core ≡ book.old.core }
@@ -172,7 +189,7 @@ impl<V> FlagWord<V> {
     }
 
     /// Makes passes until there are so many.
-    pub fn hand_out(&self, book: Book<V>, handed: &mut Vec<Pass<V>>, passes: u32) -> Book<V>
+    pub fn hand_out(&self, book: Guarded<V>, handed: &mut Vec<Pass<V>>, passes: u32) -> Guarded<V>
         requires book { IsBookOf self.now book }
         requires passes { (1 ≤ passes) × (passes ≤ most_passes) }
         requires one { book.made.count ≡ 1 }
@@ -186,30 +203,10 @@ impl<V> FlagWord<V> {
     {
         let mut book = book;
         for _made in 1..passes {
-            let pass = self.make(&mut book).unwrap();
+            let pass = self.make_first(&mut book).unwrap();
             handed.push_reserved(pass);
         }
         book
-    }
-
-    /// Takes a pass in, which ends. The book keeps its number.
-    pub fn end(&self, book: Book<V>, seat: Seat<(), View<V>>) -> Book<V>
-        requires book { IsBookOf self.now book }
-        requires pass { IsPassSeat self.now (pass_in seat.me.0.passes) seat }
-        ensures book { IsBookOf self.now result }
-        ensures core { result.core ≡ book.core }
-    {
-        let Book {
-            core,
-            made,
-            seat: mut books,
-        } = book;
-        self.table.shared.join_seat::<End>(&mut books, seat);
-        Book {
-            core,
-            made,
-            seat: books,
-        }
     }
 
     /// A word that shows the flags of the core, with the first pass and the book, in which the core is.
@@ -217,7 +214,7 @@ impl<V> FlagWord<V> {
         alloc: Global,
         core: FutureCore<V>,
         makers: u32,
-    ) -> Result<(FlagWord<V>, Pass<V>, Book<V>), NoMemory>
+    ) -> Result<(FlagWord<V>, Pass<V>, Guarded<V>), NoMemory>
     where
         V: Drop,
         requires makers { 0 < makers }
@@ -237,7 +234,7 @@ impl<V> FlagWord<V> {
         let Opening { core, makers: _ } = opening;
         let core = Box::new(alloc, core)?;
         let book = table.shared.split_seat::<HandBack>(&mut seat);
-        let book = Book {
+        let book = Guarded {
             core,
             made: Made { count: 1 },
             seat: book,

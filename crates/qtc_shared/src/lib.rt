@@ -1,23 +1,21 @@
 //! Shared futures: results that many threads report, and calls of any thread that steer them.
 #![tactic(auto)]
 
-mod book;
-mod desk;
+mod controls;
 mod flag_word;
+mod guarded;
 mod laws;
-mod looking;
+mod locked_core;
 mod pass;
 mod promise;
-mod reading;
-mod reporting;
+mod queries;
+mod reports;
 mod rule;
 mod shared_future;
-mod steering;
-#[cfg(test)]
-mod tests;
-mod waiting;
+mod state_queries;
+mod waits;
 
 pub use laws::{known_is_kept, seen_ends_drop_all, seen_flags_stay};
-pub use pass::Pass;
+pub use pass::{EndedPass, Pass};
 pub use promise::Promise;
 pub use shared_future::SharedFuture;

@@ -29,9 +29,9 @@ impl<V> Model for View<V> {
     ghost also_owns = { λ _. ftrue };
 }
 
-pub struct Law;
+pub struct FutureRule;
 
-impl<V> TableRule<(), View<V>, Opening<V>> for Law {
+impl<V> TableRule<(), View<V>, Opening<V>> for FutureRule {
     ghost use Rattle.qtc_shared.specs.Rule.{IsKept, first_view};
 
     ghost holds = { IsKept };
@@ -113,15 +113,4 @@ impl<V> Split<View<V>> for Make {
     ghost left = { counted_on };
 
     ghost right = { made_from };
-}
-
-/// The book takes in a pass that ends.
-pub struct End;
-
-impl<V> Join<View<V>> for End {
-    ghost use Rattle.qtc_shared.specs.Rule.{taken_in, nothing, no_terms};
-
-    ghost both = { taken_in };
-
-    ghost spent = { nothing no_terms };
 }

@@ -1,13 +1,13 @@
 //! A future that threads share: how it is made, how its passes come and go, and how it ends.
 ghost use Rattle.std.specs.Prelude.{◌≡◌, ◌≤◌, ◌<◌, [], All, IfOk, IfSome, IfNone};
 ghost use Rattle.qtc_shared.specs.Journals.{IsOfFirst, calls_by};
-ghost use Rattle.qtc_shared.specs.Limits.{most_passes};
+ghost use Rattle.qtc_base.specs.Limits.{most_passes};
 ghost use Rattle.qtc_shared.specs.Parts.{future_at};
-ghost use Rattle.qtc_shared.specs.Passes.{IsHold, IsShared, Meets, Stays, pass_at};
+ghost use Rattle.qtc_shared.specs.Passes.{IsHold, IsParent, IsShared, Meets, Stays, pass_at};
 
-use crate::Pass;
-use crate::book::Book;
-use crate::desk::Desk;
+use crate::guarded::Guarded;
+use crate::locked_core::LockedCore;
+use crate::{EndedPass, Pass};
 use qtc_base::{NoMemory, Value};
 use qtc_future::FutureCore;
 use std::alloc::Global;
@@ -17,7 +17,7 @@ use std::sync::Wait;
 /// A future that threads share by reference. (After Qt's QFuture and QFutureInterface.)
 #[derive(Drop)]
 pub struct SharedFuture<V: Value> {
-    pub(crate) desk: Desk<V>,
+    pub(crate) locked: LockedCore<V>,
     makers: u32,
 }
 
@@ -27,9 +27,9 @@ impl<V: Value> Model for SharedFuture<V> {
 
     ghost Value = { FutureId };
 
-    ghost view = { λ a. a.desk.word };
+    ghost view = { λ a. a.locked.word };
 
-    ghost invariant = { λ a. a.makers ≡ a.desk.word.terms.makers };
+    ghost invariant = { λ a. a.makers ≡ a.locked.word.terms.makers };
 }
 
 impl<V: Value + Drop> SharedFuture<V> {
@@ -84,8 +84,8 @@ impl<V: Value + Drop> SharedFuture<V> {
         requires callers { All IsOfFirst core.calls }
         ensures { IfOk result (λ made. IsShared core makers passes made.0 made.1.items) }
     {
-        let (desk, passes) = Desk::open(alloc, core, makers, passes)?;
-        Ok((SharedFuture { desk, makers }, passes))
+        let (locked, passes) = LockedCore::open(alloc, core, makers, passes)?;
+        Ok((SharedFuture { locked, makers }, passes))
     }
 }
 
@@ -97,18 +97,19 @@ impl<V: Value> SharedFuture<V> {
         self.makers
     }
 
-    /// A new pass with the next number, which knows what `from` then knows, and has called nothing. None exactly where
-    /// 65,536 were made.
+    /// A new pass, a child of `from`: it has a greater number, knows what `from` then knows, and has called nothing.
+    /// None where 65,536 were made.
     pub fn new_pass<R: Wait>(&self, rt: &R, from: &mut Pass<V>) -> Option<Pass<V>>
         requires { from.old.of ≡ self.now }
-        ensures from { IsHold from.old from.new Stays }
+        ensures from { IsParent from.old from.new result }
         ensures pass { IfSome result (λ pass. pass ≡ pass_at self.now pass.number from.new.known) }
         ensures number { IfSome result (λ pass. (from.old.number < pass.number) × (pass.number < most_passes)) }
         ensures fresh { IfSome result (λ pass. calls_by pass.number pass.known ≡ []) }
     {
-        let (mut book, hold) = self.desk.show(rt, &mut from.seat);
-        let pass = self.desk.word.make(&mut book);
-        self.desk.put(book, hold);
+        let (mut lent, hold) = self.locked.lend(rt, &mut from.seat);
+        let pass = self.locked.word.make(&mut lent.made, &mut from.seat);
+        let book = self.locked.word.hand_back(lent, &mut from.seat);
+        self.locked.put(book, hold);
         pass
     }
 
@@ -120,23 +121,20 @@ impl<V: Value> SharedFuture<V> {
         ensures other { IsHold other.old other.new Stays }
         ensures one { pass.new.known ≡ other.new.known }
     {
-        let (book, hold) = self.desk.show(rt, &mut pass.seat);
-        let book = self.desk.word.show(book, &mut other.seat);
-        self.desk.put(book, hold);
+        let (book, hold) = self.locked.show(rt, &mut pass.seat);
+        let book = self.locked.word.show(book, &mut other.seat);
+        self.locked.put(book, hold);
     }
 
-    /// Ends a pass. Its calls stay in the journal.
-    pub fn give_back<R: Wait>(&self, rt: &R, pass: Pass<V>)
+    /// Ends a pass. What is left of it shows that it called nothing meanwhile; its number is never given again.
+    pub fn give_back<R: Wait>(&self, rt: &R, pass: Pass<V>) -> EndedPass<V>
         requires { pass.of ≡ self.now }
-        ensures { (journal : _) × Meets pass journal }
+        ensures { IsHold pass result Stays }
     {
-        let Pass {
-            mut seat,
-            number: _,
-        } = pass;
-        let (book, hold) = self.desk.show(rt, &mut seat);
-        let book = self.desk.word.end(book, seat);
-        self.desk.put(book, hold);
+        let Pass { mut seat, number } = pass;
+        let (book, hold) = self.locked.show(rt, &mut seat);
+        self.locked.put(book, hold);
+        EndedPass::of(Pass { seat, number })
     }
 
     /// Ends the future, and gives its core.
@@ -145,8 +143,8 @@ impl<V: Value> SharedFuture<V> {
         ensures core { result ≡ future_at self.terms result.calls }
         ensures met { Meets pass result.calls }
     {
-        let SharedFuture { desk, makers: _ } = self;
+        let SharedFuture { locked, makers: _ } = self;
         let Pass { seat, number: _ } = pass;
-        desk.close(rt, seat)
+        locked.close(rt, seat)
     }
 }

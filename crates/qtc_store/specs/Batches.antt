@@ -3,10 +3,6 @@ use Rattle.std.specs.Prelude.{ℕ, ◌+◌, ◌≤◌, ◌<◌, ◌≡◌, Bool,
 use Rattle.std.specs.List.{list_any, find, range_with_len}
 use Rattle.qtc_store.specs.declared.batch.Batch.{Batch}
 
--- the end that no accepted batch may pass
-abbrev pub most_end : ℕ
-most_end = 8388608
-
 abbrev pub end_of : {V : Type 0} → Batch V → ℕ
 end_of batch = batch.begin + batch.total
 

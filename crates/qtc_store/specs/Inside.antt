@@ -7,9 +7,11 @@ use Rattle.qtc_store.specs.declared.batch.Batch.{Batch}
 use Rattle.qtc_store.specs.declared.front.Front.{Front}
 use Rattle.qtc_store.specs.declared.front.Met.{Met}
 use Rattle.qtc_store.specs.declared.pending.Pending.{Pending}
-use Rattle.qtc_store.specs.Batches.{end_of, values_of, greatest_end, most_end}
+use Rattle.qtc_store.specs.Batches.{end_of, values_of, greatest_end}
+use Rattle.qtc_base.specs.Limits.{most_end}
 use Rattle.qtc_store.specs.Visible.{meeting, meeting_end}
-use Rattle.qtc_store.specs.Stored.{bounds_of, IsStore}
+use Rattle.qtc_store.specs.Stored.{IsStore}
+use Rattle.qtc_base.specs.Ranges.{bounds_of}
 
 abbrev pub batches_of : {V : Type 0} → List (Met V) → List (Batch V)
 batches_of met = map (λ m. m.batch) met

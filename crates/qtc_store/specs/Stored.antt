@@ -6,16 +6,14 @@ use Rattle.qtc_base.specs.declared.ranges.Range.{Range}
 use Rattle.qtc_store.specs.declared.batch.Batch.{Batch}
 use Rattle.qtc_store.specs.declared.batch.AddFault.{AddFault}
 use Rattle.qtc_store.specs.declared.batch.AddFault.TheVariants.{Taken, PastEnd}
-use Rattle.qtc_store.specs.Batches.{AreApart, IsWhole, most_end, placed, greatest_end, least_covered}
+use Rattle.qtc_store.specs.Batches.{AreApart, IsWhole, placed, greatest_end, least_covered}
+use Rattle.qtc_base.specs.Limits.{most_end}
 use Rattle.qtc_store.specs.Results.{results, result_count, result_ranges}
 use Rattle.qtc_store.specs.Visible.{visible, visible_ranges}
 
 pub record Stored (V : Type 0) : Type 0 where
   pub filter : Bool
   pub batches : List (Batch V)
-
-abbrev pub bounds_of : Range → ℕ × ℕ
-bounds_of range = (range.begin, range.end)
 
 -- the result at an index, or at a position in filter mode
 abbrev pub value_at : {V : Type 0} → Stored V → ℕ → Option V

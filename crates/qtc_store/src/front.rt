@@ -3,7 +3,8 @@
 ghost use Rattle.std.specs.Prelude.{◌≡◌, ◌+◌, ◌≤◌, [], ◌∷◌, ◌++◌, length, option_copied, slice_get, All, OnOk, IfOk};
 ghost use Rattle.std.specs.List.{flat_map};
 ghost use Rattle.std.specs.Vec.{vec_len, vec_capacity};
-ghost use Rattle.qtc_store.specs.Batches.{greatest_end, most_end, values_of};
+ghost use Rattle.qtc_store.specs.Batches.{greatest_end, values_of};
+ghost use Rattle.qtc_base.specs.Limits.{most_end};
 ghost use Rattle.qtc_store.specs.Inside.{met_in, waiting_in, Appends, HasRoom, IsFront, IsKeyed};
 ghost use Rattle.qtc_store.specs.Results.{result_ranges};
 ghost use Rattle.qtc_store.specs.Visible.{meeting, position_ranges};

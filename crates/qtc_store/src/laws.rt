@@ -1,7 +1,7 @@
 //! Laws of the definitions, as contracts of functions with empty bodies.
 
 ghost use Rattle.std.specs.Prelude.{◌≡◌};
-ghost use Rattle.qtc_store.specs.Batches.{most_end};
+ghost use Rattle.qtc_base.specs.Limits.{most_end};
 ghost use Rattle.qtc_store.specs.Laws.{InOrderAscends, VisibleIsBelowGap};
 
 use crate::batch::MOST_END;

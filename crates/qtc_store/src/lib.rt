@@ -8,8 +8,6 @@ mod laws;
 mod pending;
 mod ranges;
 mod store;
-#[cfg(test)]
-mod tests;
 
 pub use batch::{AddFault, Added, Addition, Batch, MOST_END};
 pub use laws::{batches_in_order_ascend, most_end_is_the_limit, visible_is_below_gap};

@@ -4,7 +4,8 @@ ghost use Rattle.std.specs.Prelude.{◌≡◌, ◌+◌, ◌^◌, ◌<◌, ◌≤
 ghost use Rattle.std.specs.List.{last_or};
 ghost use Rattle.std.specs.Ordering.{nat_cmp};
 ghost use Rattle.std.specs.FinMap.{get};
-ghost use Rattle.qtc_store.specs.Batches.{AreApart, greatest_end, is_covered, least_covered, most_end, placed};
+ghost use Rattle.qtc_store.specs.Batches.{AreApart, greatest_end, is_covered, least_covered, placed};
+ghost use Rattle.qtc_base.specs.Limits.{most_end};
 ghost use Rattle.qtc_store.specs.Inside.{after, up_to, waiting_in, Appends, IsKeyed};
 ghost use Rattle.qtc_store.specs.Results.{results, result_ranges};
 ghost use Rattle.qtc_store.specs.Visible.{meeting};

@@ -1,7 +1,7 @@
 //! Ranges that a store tells.
 
 ghost use Rattle.std.specs.Prelude.{◌+◌, ◌≤◌, [], ◌∷◌, OnOk};
-ghost use Rattle.qtc_store.specs.Batches.{most_end};
+ghost use Rattle.qtc_base.specs.Limits.{most_end};
 ghost use Rattle.qtc_store.specs.Inside.{Appends};
 ghost use Rattle.qtc_store.specs.Visible.{positions};
 

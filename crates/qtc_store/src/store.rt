@@ -1,5 +1,6 @@
 ghost use Rattle.std.specs.Prelude.{◌≡◌, ◌+◌, ◌<◌, ◌≤◌, true, false, [], ◌∷◌, OnOk, OnErr, IfOk, IfErr, IsSome, IsTrue, None, Some, is_some, ℕ, Err, length, map, option_copied, unwrap_or, All};
-ghost use Rattle.qtc_store.specs.Batches.{greatest_end, least_covered, most_end};
+ghost use Rattle.qtc_store.specs.Batches.{greatest_end, least_covered};
+ghost use Rattle.qtc_base.specs.Limits.{most_end};
 
 use crate::batch::MOST_END;
 use crate::front::Front;
@@ -39,7 +40,8 @@ impl<V> Model for ResultStore<V> {
 }
 
 impl<V> ResultStore<V> {
-    ghost use Rattle.qtc_store.specs.Stored.{count_of, ranges_of, value_at, refusal_of, AreRangesOf, IsFirstGap, IsFirstResults, bounds_of};
+    ghost use Rattle.qtc_store.specs.Stored.{count_of, ranges_of, value_at, refusal_of, AreRangesOf, IsFirstGap, IsFirstResults};
+    ghost use Rattle.qtc_base.specs.Ranges.{bounds_of};
 
     /// The empty store, which takes no memory yet.
     pub fn new(alloc: Global, filter: bool) -> ResultStore<V>
@@ -142,8 +144,8 @@ impl<V> ResultStore<V> {
         self.pending.first_covered(begin, total)
     }
 
-    /// Why a batch would be refused, want of memory apart.
-    fn refusal(&self, begin: u32, total: u32) -> Option<AddFault>
+    /// Why a batch for the indexes from `begin` to `begin + total` would be refused, want of memory apart.
+    pub fn refusal(&self, begin: u32, total: u32) -> Option<AddFault>
         ensures { result ≡ refusal_of self.now.batches begin total }
     {
         if let Some(index) = self.first_covered(begin, total) {

@@ -1,5 +1,5 @@
 // Engines, with a thread for each worker or step by step on one.
-ghost use Rattle.std.specs.Prelude.{◌≡◌, ◌<◌, ◌≤◌, [], false, true, All, IfOk, length};
+ghost use Rattle.std.specs.Prelude.{◌≡◌, ◌<◌, ◌≤◌, [], false, true, All, IfOk, IfSome, length};
 ghost use Rattle.qtc_kernel.specs.Crews.{AreDesks, IsDesk, IsPlanned};
 ghost use Rattle.qtc_kernel.specs.Driving.{AreSizes, is_filter};
 ghost use Rattle.qtc_kernel.specs.Workload.{Suits, workload};
@@ -72,7 +72,7 @@ pub(crate) fn engine_of<'a, F: ItemFn + Drop, G: Gate>(
     requires { IsPlanned F.value F.called plan.kind plan.items.now plan.workers plan.blocks functions.items }
     ensures desks { IfOk result (λ made. AreDesks F.value F.called made.0 made.1.items) }
     ensures some { IfOk result (λ made. 0 < length made.1.items) }
-    ensures out { IfOk result (λ made. All (λ desk. desk.is_in ≡ false) made.1.items) }
+    ensures out { IfOk result (λ made. All (λ desk. desk.badge.is_in ≡ false) made.1.items) }
     ensures pass { IfOk result (λ made. made.2.of ≡ made.0.future) }
 {
     Engine::new(alloc, plan, functions, gate)
@@ -85,18 +85,12 @@ pub(crate) fn drive<F: ItemFn, G: Gate, R: Wait>(
     desk: &mut Desk<F>,
 )
     requires desk { IsDesk F.value F.called engine.now desk.old }
-    requires out { desk.old.is_in ≡ false }
+    requires out { desk.old.badge.is_in ≡ false }
     ensures desk { IsDesk F.value F.called engine.now desk.new }
-    ensures out { desk.new.is_in ≡ false }
+    ensures out { desk.new.badge.is_in ≡ false }
 {
     engine.enter(desk);
-    for _ in rt.forever() {
-        match engine.step(rt, desk) {
-            Turn::Did(_) => {}
-            _ => return,
-        }
-    }
-    unreachable!()
+    engine.work(rt, desk);
 }
 
 // Works with each desk in a thread of its own.
@@ -107,9 +101,9 @@ fn drive_all<F: ItemFn, G: Gate, R: Threads + Wait + Sync>(
 )
     requires desks { AreDesks F.value F.called engine.now desks.old.items }
     requires some { 0 < length desks.old.items }
-    requires out { All (λ desk. desk.is_in ≡ false) desks.old.items }
+    requires out { All (λ desk. desk.badge.is_in ≡ false) desks.old.items }
     ensures desks { AreDesks F.value F.called engine.now desks.new.items }
-    ensures out { All (λ desk. desk.is_in ≡ false) desks.new.items }
+    ensures out { All (λ desk. desk.badge.is_in ≡ false) desks.new.items }
 {
     let threads = desks.len();
     for_each_mut(
@@ -118,9 +112,9 @@ fn drive_all<F: ItemFn, G: Gate, R: Threads + Wait + Sync>(
         threads,
         &|_, desk: &mut Desk<F>|
             requires desk { IsDesk F.value F.called engine.now desk.old }
-            requires out { desk.old.is_in ≡ false }
+            requires out { desk.old.badge.is_in ≡ false }
             ensures desk { IsDesk F.value F.called engine.entry.now desk.new }
-            ensures out { desk.new.is_in ≡ false }
+            ensures out { desk.new.badge.is_in ≡ false }
         {
             drive(rt, engine, desk);
         },
@@ -135,11 +129,26 @@ pub(crate) fn ended<F: ItemFn + Drop, G: Gate, R: Wait>(
     desks: Vec<Desk<F>>,
 ) -> Result<(FutureCore<Bytes>, List<u32>), NoMemory>
     requires desks { AreDesks F.value F.called engine desks.items }
-    requires out { All (λ desk. desk.is_in ≡ false) desks.items }
+    requires out { All (λ desk. desk.badge.is_in ≡ false) desks.items }
 {
     let finished = engine.finish(rt, alloc, desks)?;
     let core = engine.close(rt, finished.pass);
     Ok((core, finished.calls))
+}
+
+// The sequential answer: one thread makes an engine and ends it, which works off all blocks.
+#[test]
+fn a_map_is_made_by_an_engine_alone(rt: HostRuntime) -> Result<(), Fail> {
+    let alloc = rt.alloc();
+    let items = bytes_of(alloc, b"abcde")?;
+    let (plan, functions) = map_plan(&rt, alloc, MapOp::Same, &items, 4, &[2])?;
+    let (engine, desks, _pass) = engine_of(alloc, plan, functions, &NoGate)?;
+    let finished = engine.finish(&rt, alloc, desks)?;
+    assert!(rt; finished.calls.as_slice() == [0, 1, 2, 3, 4].as_slice());
+    assert_eq!(rt; finished.functions.len(), 4);
+    let core = engine.close(&rt, finished.pass);
+    assert!(rt; gives(core, b"abcde")?);
+    Ok(())
 }
 
 // What a plan comes to with a thread for each worker.
@@ -273,55 +282,19 @@ fn two_workers_fail_with_a_bad_item(rt: HostRuntime) -> Result<(), Fail> {
     Ok(())
 }
 
-// Counts the worker in, where it is out.
-fn enter_where_out(engine: &Engine<'_, OpFn, NoGate>, desk: &mut Desk<OpFn>)
-    requires { IsDesk ⟦<OpFn as ItemFn>⟧.value ⟦<OpFn as ItemFn>⟧.called engine.now desk.old }
-    ensures desk { IsDesk ⟦<OpFn as ItemFn>⟧.value ⟦<OpFn as ItemFn>⟧.called engine.now desk.new }
-    ensures is_in { desk.new.is_in ≡ true }
+// The last desk of an engine, and the others.
+pub(crate) fn last_desk<F: ItemFn + Drop, G: Gate>(
+    engine: &Engine<'_, F, G>,
+    desks: &mut Vec<Desk<F>>,
+) -> Option<Desk<F>>
+    requires desks { All (IsDesk F.value F.called engine.now) desks.old.items }
+    requires out { All (λ desk. desk.badge.is_in ≡ false) desks.old.items }
+    ensures desk { IfSome result (IsDesk F.value F.called engine.now) }
+    ensures is_out { IfSome result (λ desk. desk.badge.is_in ≡ false) }
+    ensures desks { All (IsDesk F.value F.called engine.now) desks.new.items }
+    ensures out { All (λ desk. desk.badge.is_in ≡ false) desks.new.items }
 {
-    if !desk.is_in {
-        engine.enter(desk);
-    }
-}
-
-// One turn, for which the worker enters where it is out.
-fn one_turn<R: Wait>(rt: &R, engine: &Engine<'_, OpFn, NoGate>, desk: &mut Desk<OpFn>) -> Turn
-    requires { IsDesk ⟦<OpFn as ItemFn>⟧.value ⟦<OpFn as ItemFn>⟧.called engine.now desk.old }
-    ensures { IsDesk ⟦<OpFn as ItemFn>⟧.value ⟦<OpFn as ItemFn>⟧.called engine.now desk.new }
-{
-    enter_where_out(engine, desk);
-    engine.step(rt, desk)
-}
-
-// So many turns at the desk at a place.
-fn turns_of<R: Wait>(
-    rt: &R,
-    alloc: Global,
-    engine: &Engine<'_, OpFn, NoGate>,
-    desks: &mut Vec<Desk<OpFn>>,
-    place: usize,
-    count: u32,
-) -> Result<Vec<Turn>, NoMemory>
-    requires desks { All (IsDesk ⟦<OpFn as ItemFn>⟧.value ⟦<OpFn as ItemFn>⟧.called engine.now) desks.old.items }
-    requires place { place < length desks.old.items }
-    ensures desks { All (IsDesk ⟦<OpFn as ItemFn>⟧.value ⟦<OpFn as ItemFn>⟧.called engine.now) desks.new.items }
-    ensures place { place < length desks.new.items }
-{
-    let mut turns = Vec::new(alloc);
-    for _turn in 0..count {
-        turns.push(one_turn(rt, engine, &mut desks[place]))?;
-    }
-    Ok(turns)
-}
-
-// What the first desk says of a further worker.
-fn may_start(engine: &Engine<'_, OpFn, NoGate>, desks: &mut Vec<Desk<OpFn>>) -> bool
-    requires desks { All (IsDesk ⟦<OpFn as ItemFn>⟧.value ⟦<OpFn as ItemFn>⟧.called engine.now) desks.old.items }
-    requires some { 0 < length desks.old.items }
-    ensures desks { All (IsDesk ⟦<OpFn as ItemFn>⟧.value ⟦<OpFn as ItemFn>⟧.called engine.now) desks.new.items }
-    ensures some { 0 < length desks.new.items }
-{
-    engine.may_start(&mut desks[0])
+    desks.pop()
 }
 
 #[test]
@@ -330,11 +303,22 @@ fn a_worker_tells_each_turn(rt: HostRuntime) -> Result<(), Fail> {
     let items = bytes_of(alloc, b"12x4")?;
     let (plan, functions) = map_plan(&rt, alloc, MapOp::Number, &items, 1, &[2])?;
     let (engine, mut desks, pass) = engine_of(alloc, plan, functions, &NoGate)?;
-    assert!(rt; may_start(&engine, &mut desks));
-    let turns = turns_of(&rt, alloc, &engine, &mut desks, 0, 3)?;
-    let first = Turn::Did(Range { begin: 0, end: 2 });
-    assert!(rt; turns.as_slice() == [first, Turn::Failed(2), Turn::SawCanceled].as_slice());
-    assert!(rt; !may_start(&engine, &mut desks));
+    let Some(mut desk) = last_desk(&engine, &mut desks) else {
+        panic!(rt; "no desk")
+    };
+    assert!(rt; engine.may_start(&mut desk));
+    engine.enter(&mut desk);
+    let Turn::Did(range) = engine.step(&rt, &mut desk) else {
+        panic!(rt; "no block")
+    };
+    assert!(rt; range == Range { begin: 0, end: 2 });
+    let Turn::Failed(index) = engine.step(&rt, &mut desk) else {
+        panic!(rt; "no bad item")
+    };
+    assert_eq!(rt; index, 2);
+    engine.enter(&mut desk);
+    assert!(rt; matches!(engine.step(&rt, &mut desk), Turn::SawCanceled));
+    assert!(rt; !engine.may_start(&mut desk));
     assert_eq!(rt; engine.close(&rt, pass).count(), 2);
     Ok(())
 }
@@ -346,11 +330,18 @@ fn a_worker_is_asked_for_until_all_are_in(rt: HostRuntime) -> Result<(), Fail> {
     let items = bytes_of(alloc, b"abcdef")?;
     let (plan, functions) = map_plan(&rt, alloc, MapOp::Same, &items, 2, &[1])?;
     let (engine, mut desks, _pass) = engine_of(alloc, plan, functions, &NoGate)?;
-    assert!(rt; desks.len() == 2);
-    turns_of(&rt, alloc, &engine, &mut desks, 1, 2)?;
-    assert!(rt; may_start(&engine, &mut desks));
-    turns_of(&rt, alloc, &engine, &mut desks, 0, 2)?;
-    assert!(rt; !may_start(&engine, &mut desks));
+    let Some(mut second) = last_desk(&engine, &mut desks) else {
+        panic!(rt; "no desk")
+    };
+    let Some(mut first) = last_desk(&engine, &mut desks) else {
+        panic!(rt; "no other desk")
+    };
+    engine.enter(&mut second);
+    assert!(rt; engine.may_start(&mut first));
+    engine.enter(&mut first);
+    assert!(rt; !engine.may_start(&mut first));
+    engine.work(&rt, &mut second);
+    assert!(rt; !engine.may_start(&mut first));
     Ok(())
 }
 

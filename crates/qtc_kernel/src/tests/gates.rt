@@ -1,17 +1,17 @@
-// When an engine enters the gate.
-ghost use Rattle.std.specs.Prelude.{◌≡◌, ◌≤◌, [], length};
+// When an engine enters the gate, and how it ends where a function wants memory.
+ghost use Rattle.std.specs.Prelude.{◌≡◌, ◌≤◌, [], false, All, IfOk, length};
+ghost use Rattle.qtc_kernel.specs.Crews.{AreDesks};
 ghost use Rattle.qtc_kernel.specs.Driving.{AreSizes};
 ghost use Rattle.qtc_ops.specs.ItemValue.{kept};
 
 use crate::tests::engines::{ended, engine_of};
 use crate::tests::{are_sizes, bytes_of, gives};
-use crate::{Kind, Plan};
+use crate::{Desk, Engine, Kind, Plan};
 use qtc_base::{Bytes, Items, List, NoMemory};
-use qtc_future::FutureCore;
 use qtc_ops::{ItemFault, ItemFn};
-use qtc_outside::Gate;
+use qtc_outside::{Gate, NoGate};
+use qtc_shared::Pass;
 use std::alloc::Global;
-use std::sync::Wait;
 use std::sync::atomic::AtomicU32;
 use std::sync::atomic::Ordering::SeqCst;
 use std::test::Fail;
@@ -61,18 +61,20 @@ impl<'a> ItemFn for Watched<'a> {
     }
 }
 
-// What a filter with one worker comes to, as job 7.
-fn filter_alone<F: ItemFn + Drop, G: Gate, R: Wait>(
-    rt: &R,
+// An engine of a filter with one worker, as job 7.
+fn filter_engine<'a, F: ItemFn + Drop, G: Gate>(
     alloc: Global,
-    items: &Items,
+    items: &'a Items,
     sizes: &[u32],
     function: F,
-    gate: &G,
-) -> Result<(FutureCore<Bytes>, List<u32>), NoMemory>
+    gate: &'a G,
+) -> Result<(Engine<'a, F, G>, Vec<Desk<F>>, Pass<Bytes>), NoMemory>
     requires items { length items.now ≤ 8388608 }
     requires sizes { AreSizes sizes.now }
     requires fresh { F.called function ≡ [] }
+    ensures desks { IfOk result (λ made. AreDesks F.value F.called made.0 made.1.items) }
+    ensures out { IfOk result (λ made. All (λ desk. desk.badge.is_in ≡ false) made.1.items) }
+    ensures pass { IfOk result (λ made. made.2.of ≡ made.0.future) }
 {
     let mut functions = Vec::new(alloc);
     functions.push(function)?;
@@ -87,8 +89,7 @@ fn filter_alone<F: ItemFn + Drop, G: Gate, R: Wait>(
         cancel_after: 0,
         suspend_after: 0,
     };
-    let (engine, desks, _pass) = engine_of(alloc, plan, functions, gate)?;
-    ended(rt, alloc, engine, desks)
+    engine_of(alloc, plan, functions, gate)
 }
 
 #[test]
@@ -107,10 +108,49 @@ fn the_gate_is_entered_just_before_each_call(rt: HostRuntime) -> Result<(), Fail
         gate: &gate,
         calls: List::new(alloc),
     };
-    let (core, calls) = filter_alone(&rt, alloc, &items, &sizes, function, &gate)?;
+    let (engine, desks, _pass) = filter_engine(alloc, &items, &sizes, function, &gate)?;
+    let (core, calls) = ended(&rt, alloc, engine, desks)?;
     assert!(rt; gives(core, b"abc")?);
     assert_eq!(rt; calls.as_slice(), [0, 1, 2].as_slice());
     assert_eq!(rt; gate.entries.load(SeqCst), 3);
     assert_eq!(rt; gate.wrong.load(SeqCst), 0);
+    Ok(())
+}
+
+// Wants memory at each item.
+#[derive(Drop)]
+struct Hungry {
+    calls: List<u32>,
+}
+
+impl ItemFn for Hungry {
+    ghost value = { λ _ item. kept item };
+
+    ghost called = { λ f. f.calls };
+
+    fn apply(&mut self, _index: u32, _item: &[u8]) -> Result<Option<Bytes>, ItemFault> {
+        Err(ItemFault::Memory)
+    }
+
+    fn calls(&self) -> &[u32] {
+        self.calls.as_slice()
+    }
+}
+
+// An engine whose functions want memory finishes its future all the same.
+#[test]
+fn an_engine_that_wants_memory_finishes_its_future(rt: HostRuntime) -> Result<(), Fail> {
+    let alloc = rt.alloc();
+    let items = bytes_of(alloc, b"ab")?;
+    assert!(rt; items.len() <= 8_388_608);
+    let sizes = [1];
+    assert!(rt; are_sizes(&sizes));
+    let function = Hungry {
+        calls: List::new(alloc),
+    };
+    let (engine, desks, mut pass) = filter_engine(alloc, &items, &sizes, function, &NoGate)?;
+    assert!(rt; engine.finish(&rt, alloc, desks).is_err());
+    let flags = engine.future().state(&mut pass);
+    assert!(rt; flags.is_canceled() && flags.is_finished());
     Ok(())
 }

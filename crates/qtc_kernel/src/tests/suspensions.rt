@@ -1,14 +1,16 @@
 // An engine whose future is suspended.
-ghost use Rattle.std.specs.Prelude.{◌≡◌, false, All, IfSome};
-ghost use Rattle.qtc_kernel.specs.Crews.{AreDesks, IsDesk};
+ghost use Rattle.std.specs.Prelude.{◌≡◌, false};
+ghost use Rattle.qtc_kernel.specs.Crews.{IsDesk};
 
 use crate::tests::bytes_of;
-use crate::tests::engines::{drive, engine_of, map_plan};
+use crate::tests::engines::{drive, engine_of, last_desk, map_plan};
 use crate::{Desk, Engine};
 use qtc_base::Bytes;
 use qtc_ops::{ItemFn, MapOp};
 use qtc_outside::Gate;
 use qtc_shared::Pass;
+use std::alloc::Global;
+use std::process::Abort;
 use std::rt::Clock;
 use std::sync::Wait;
 use std::sync::atomic::Ordering::SeqCst;
@@ -63,14 +65,14 @@ fn drive_and_resume<F: ItemFn + Drop, R: Threads + Wait + Clock + Sync>(
     pass: Pass<Bytes>,
 ) -> bool
     requires desk { IsDesk F.value F.called engine.now desk }
-    requires out { desk.is_in ≡ false }
+    requires out { desk.badge.is_in ≡ false }
     requires pass { pass.of ≡ engine.now.future }
 {
     let ((), resumed) = join(
         rt,
         move ||
             requires desk { IsDesk F.value F.called engine.now desk }
-            requires out { desk.is_in ≡ false }
+            requires out { desk.badge.is_in ≡ false }
         { drive(rt, engine, &mut desk) },
         move ||
             requires { pass.of ≡ engine.now.future }
@@ -79,35 +81,37 @@ fn drive_and_resume<F: ItemFn + Drop, R: Threads + Wait + Clock + Sync>(
     resumed
 }
 
-// The last desk of an engine.
-fn last_desk<F: ItemFn + Drop>(
-    engine: &Engine<'_, F, Watchman>,
-    mut desks: Vec<Desk<F>>,
-) -> Option<Desk<F>>
-    requires desks { AreDesks F.value F.called engine.now desks.items }
-    requires out { All (λ desk. desk.is_in ≡ false) desks.items }
-    ensures desk { IfSome result (IsDesk F.value F.called engine.now) }
-    ensures out { IfSome result (λ desk. desk.is_in ≡ false) }
-{
-    desks.pop()
-}
-
 #[test]
 fn a_worker_waits_while_the_future_is_suspended(rt: HostRuntime) -> Result<(), Fail> {
-    let alloc = rt.alloc();
+    for is_reported in [false, true] {
+        waits_while_suspended(&rt, rt.alloc(), is_reported)?;
+    }
+    Ok(())
+}
+
+// Suspends an engine, and reports by the caller's pass that its work stands still, or not: its worker comes to the gate
+// only once the future is resumed.
+fn waits_while_suspended<R: Threads + Wait + Clock + Sync + Abort>(
+    rt: &R,
+    alloc: Global,
+    is_reported: bool,
+) -> Result<(), Fail> {
     let gate = Watchman {
         resumed: AtomicBool::new(false),
         early: AtomicU32::new(0),
         late: AtomicU32::new(0),
     };
     let items = bytes_of(alloc, b"abcd")?;
-    let (plan, functions) = map_plan(&rt, alloc, MapOp::Same, &items, 1, &[1])?;
-    let (engine, desks, mut pass) = engine_of(alloc, plan, functions, &gate)?;
-    assert!(rt; engine.future().set_suspended(&rt, &mut pass, true)?);
-    let Some(desk) = last_desk(&engine, desks) else {
+    let (plan, functions) = map_plan(rt, alloc, MapOp::Same, &items, 1, &[1])?;
+    let (engine, mut desks, mut pass) = engine_of(alloc, plan, functions, &gate)?;
+    assert!(rt; engine.future().set_suspended(rt, &mut pass, true)?);
+    if is_reported {
+        assert!(rt; engine.future().report_suspended(rt, &mut pass)?);
+    }
+    let Some(desk) = last_desk(&engine, &mut desks) else {
         panic!(rt; "no desk")
     };
-    assert!(rt; drive_and_resume(&rt, &engine, desk, &gate, pass));
+    assert!(rt; drive_and_resume(rt, &engine, desk, &gate, pass));
     assert_eq!(rt; gate.early.load(SeqCst), 0);
     assert_eq!(rt; gate.late.load(SeqCst), 4);
     Ok(())

@@ -1,7 +1,7 @@
 use Rattle.std.proofs.Common.{◌≡◌, ◌+◌, length}
 use Rattle.std.specs.List.{list_any}
 use Rattle.std.specs.Str.{bytes_eq}
-use Rattle.qtc_job.specs.Canonical.{names_of}
+use Rattle.qtc_job_file.specs.Canonical.{names_of}
 use Rattle.qtc_job.specs.Meaning.{place_of}
 use Rattle.qtc_job.proofs.earlier_jobs.place_among.Given as goal
 

@@ -1,5 +1,5 @@
 use Rattle.std.proofs.Common.{ap}
-use Rattle.qtc_job.specs.declared.jobs.Input.TheVariants.{Lines, Files}
+use Rattle.qtc_job_file.specs.declared.jobs.Input.TheVariants.{Lines, Files}
 use Rattle.qtc_job.proofs.inputs.input_kind.Goals as goal
 
 pub returns-in-Pieces : goal.returns-in-Pieces

@@ -1,7 +1,7 @@
 use Rattle.std.proofs.Common.{ℕ, List, map, subst, sym}
 use Rattle.qtc_base.specs.Words.{words_left}
 use Rattle.qtc_job.specs.Answers.{Gives}
-use Rattle.qtc_job.specs.Canonical.{names_of}
+use Rattle.qtc_job_file.specs.Canonical.{names_of}
 use Rattle.qtc_job.specs.Forms.{earlier}
 use Rattle.qtc_job.specs.Meaning.{place_of}
 use Rattle.qtc_job.proofs.FormLemmas.{up_to-many}

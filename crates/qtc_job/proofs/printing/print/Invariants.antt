@@ -1,6 +1,6 @@
 use Rattle.std.proofs.Common.{◌≡◌, ◌++◌, length}
 use Rattle.std.specs.List.{flat_map}
-use Rattle.qtc_job.specs.Canonical.{canonical, job_lines, names_of}
+use Rattle.qtc_job_file.specs.Canonical.{canonical, job_lines, names_of}
 use Rattle.qtc_job.specs.Tails.{ended_lines}
 use Rattle.qtc_job.proofs.printing.print.Given as goal
 

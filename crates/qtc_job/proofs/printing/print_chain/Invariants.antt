@@ -1,5 +1,5 @@
 use Rattle.std.proofs.Common.{◌≡◌, ◌++◌, length, map}
-use Rattle.qtc_job.specs.Canonical.{chain_words}
+use Rattle.qtc_job_file.specs.Canonical.{chain_words}
 use Rattle.qtc_job.specs.Tails.{ended_lines}
 use Rattle.qtc_job.proofs.printing.print_chain.Given as goal
 

@@ -1,5 +1,5 @@
 use Rattle.std.proofs.Common.{[], ◌∷◌, ◌++◌}
-use Rattle.qtc_job.specs.Canonical.{names_of}
+use Rattle.qtc_job_file.specs.Canonical.{names_of}
 use Rattle.qtc_job.specs.Codes.{own_above, own_codes}
 use Rattle.qtc_job.specs.Answers.{IsLeast}
 use Rattle.qtc_job.proofs.StepLemmas.{marks-unmarked, unmarked-job, bad-in}

@@ -2,8 +2,8 @@ use Rattle.std.proofs.Common.{ap, rules}
 use mir.Val.{SFits}
 use mir.Syntax.{w32}
 use Rattle.std.proofs.lemmas.Int.{to_z-of_z}
-use Rattle.qtc_job.specs.Canonical.{names_of}
-use Rattle.qtc_job.specs.declared.jobs.ChainOp.TheVariants as chain
+use Rattle.qtc_job_file.specs.Canonical.{names_of}
+use Rattle.qtc_job_file.specs.declared.jobs.ChainOp.TheVariants as chain
 use Rattle.qtc_job.specs.declared.statements.Statement.TheVariants as says
 use Rattle.qtc_job.proofs.statements.read_statement.Goals as goal
 

@@ -1,5 +1,5 @@
 use Rattle.std.proofs.Common.{◌≡◌, ◌++◌, length, map}
-use Rattle.qtc_job.specs.Canonical.{name_at, names_of}
+use Rattle.qtc_job_file.specs.Canonical.{name_at, names_of}
 use Rattle.qtc_job.specs.Tails.{tail}
 use Rattle.qtc_job.proofs.words_of.put_jobs.Given as goal
 

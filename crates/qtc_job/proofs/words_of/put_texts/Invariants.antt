@@ -1,5 +1,5 @@
 use Rattle.std.proofs.Common.{◌≡◌, ◌++◌, length, map}
-use Rattle.qtc_job.specs.Canonical.{written}
+use Rattle.qtc_job_file.specs.Canonical.{written}
 use Rattle.qtc_job.specs.Tails.{tail}
 use Rattle.qtc_job.proofs.words_of.put_texts.Given as goal
 

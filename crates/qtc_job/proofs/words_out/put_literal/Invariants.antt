@@ -1,5 +1,5 @@
 use Rattle.std.proofs.Common.{◌≡◌, ◌∷◌, ◌++◌, take}
-use Rattle.qtc_job.specs.Canonical.{written}
+use Rattle.qtc_job_file.specs.Canonical.{written}
 use Rattle.qtc_job.proofs.words_out.put_literal.Given as goal
 
 abbrev pub invariant-loop-byte : goal.invariant-loop-byte

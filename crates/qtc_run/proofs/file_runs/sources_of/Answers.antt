@@ -1,7 +1,7 @@
 use Rattle.std.proofs.Common.{◌≡◌, ◌≤◌, true, List, length, refl, sym, subst, arith}
 use Rattle.std.specs.Prelude.{All}
 use Rattle.qtc_base.specs.Items.{PassesLimit}
-use Rattle.qtc_job.specs.declared.jobs.Job.{Job}
+use Rattle.qtc_job_file.specs.declared.jobs.Job.{Job}
 use Rattle.qtc_kernel.specs.Driving.{AreSizes}
 use Rattle.qtc_run.specs.Loaded.{HasAll}
 use Rattle.qtc_run.specs.Rounds.{IsReady, IsSourceOf}

@@ -25,6 +25,6 @@ loop-engine-preserved g c =
     let here = c.loop-engine.invariant.left ∙ rows-from c.args.workers c.args.engines.now c.loop-engine.engine-index c.engine-item.result c.loop-engine-test.true c.engine-item.is in
     record {
       done = pairs-next (HasDone g.F.ItemFn.value) c.args.engines.now c.loop-engine.finished.items c.push.new.self.items c.loop-engine.engine-index c.engine-item.result c.in_ok-done.done c.loop-engine-test.true c.engine-item.is
-          c.in_ok-push.ensures.items c.loop-engine.invariant.done (record { of = c.in_ok-done.ensures.pass; finished = c.in_ok-done.ensures.finished; worked = c.in_ok-done.ensures.worked });
+          c.in_ok-push.ensures.items c.loop-engine.invariant.done (record { of = c.in_ok-done.ensures.pass.0; finished = c.in_ok-done.ensures.pass.1; worked = c.in_ok-done.ensures.worked });
       left = (c.in_ok-desks.ensures c.engine-item.result rest here).2;
     }

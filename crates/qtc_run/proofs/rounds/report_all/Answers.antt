@@ -14,7 +14,7 @@ loop-source-preserved g c =
     let R : Source → Crew g.row.F.Denot → Type 0 = IsEngineFor g.F.ItemFn.value c.args.workers in
     let more : List (Crew g.row.F.Denot) = into_iter_items c.next.new.self in
     let engines = subst (λ (engines : List (Crew g.row.F.Denot)). EachPair R (drop c.loop-source.source-index c.args.sources.now) engines) c.in-Some.ensures.cases.0 c.loop-source.invariant.engines in
-    let finished = subst (λ (finished : List Finished). EachPair (HasDone g.F.ItemFn.value) (c.in-Some.engine ∷ more) finished) c.in-Some-next.ensures.cases.0
+    let finished = subst (λ (finished : List (Finished g.row.F.Denot)). EachPair (HasDone g.F.ItemFn.value) (c.in-Some.engine ∷ more) finished) c.in-Some-next.ensures.cases.0
     (subst (λ (engines : List (Crew g.row.F.Denot)). EachPair (HasDone g.F.ItemFn.value) engines (into_iter_items c.loop-source.finished)) c.in-Some.ensures.cases.0 c.loop-source.invariant.finished) in
     record {
       engines = (pairs-first R c.args.sources.now c.loop-source.source-index c.source-item.result c.in-Some.engine more c.loop-source-test.true c.source-item.is engines).1;

@@ -1,6 +1,7 @@
 use Rattle.std.proofs.Common.{◌≡◌, ◌<◌, List, ℕ, ap, length, sym, ⊎_elim, ◌∙◌, arith}
 use Rattle.std.specs.Arc.{arc_value}
-use Rattle.qtc_base.specs.Items.{total_bytes, most_bytes, most_items}
+use Rattle.qtc_base.specs.Items.{total_bytes}
+use Rattle.qtc_base.specs.Limits.{most_bytes, most_items}
 use Rattle.qtc_base.specs.Lines.{lines}
 use Rattle.qtc_base.specs.Parts.{parts_of}
 use Rattle.qtc_base.proofs.LineLemmas.{lines_short}

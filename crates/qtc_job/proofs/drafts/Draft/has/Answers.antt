@@ -1,6 +1,6 @@
 use Rattle.std.proofs.Common.{ap, ◌∙◌, is_some, map}
 use Rattle.qtc_base.specs.Decimal.{number_of}
-use Rattle.qtc_job.specs.declared.keywords.Keyword.TheVariants as word
+use Rattle.qtc_job_file.specs.declared.keywords.Keyword.TheVariants as word
 use Rattle.qtc_job.specs.Literals.{priority_of}
 use Rattle.qtc_job.specs.Meaning.{order_meant, number_at, word_at}
 use Rattle.qtc_job.proofs.DraftLemmas.{kept-some}

@@ -1,6 +1,6 @@
 use Rattle.std.proofs.Common.{◌≡◌, Option, Some, refl, sym, subst}
 use Rattle.qtc_job.specs.declared.drafts.Draft.{Draft}
-use Rattle.qtc_job.specs.Canonical.{names_of}
+use Rattle.qtc_job_file.specs.Canonical.{names_of}
 use Rattle.qtc_job.specs.Codes.{own_above}
 use Rattle.qtc_job.specs.Lines.{job}
 use Rattle.qtc_job.specs.Readers.{IsRefusal, IsEndRefusal}

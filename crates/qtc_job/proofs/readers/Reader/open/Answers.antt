@@ -1,7 +1,7 @@
 use Rattle.std.proofs.Common.{◌≡◌, ℕ, List, [], ◌∷◌, ◌++◌, refl, ap, sym, subst, ◌∙◌}
 use Rattle.qtc_base.specs.Words.{words_left}
 use Rattle.qtc_job.specs.Answers.{IsFault}
-use Rattle.qtc_job.specs.Canonical.{names_of}
+use Rattle.qtc_job_file.specs.Canonical.{names_of}
 use Rattle.qtc_job.specs.Codes.{own_codes, above_codes}
 use Rattle.qtc_job.specs.Forms.{name}
 use Rattle.qtc_job.specs.Lines.{job}

@@ -1,6 +1,6 @@
 use Rattle.std.proofs.Common.{◌≡◌, [], ◌∷◌, refl, ap, sym, ◌∙◌}
 use Rattle.qtc_base.specs.Words.{words_left}
-use Rattle.qtc_job.specs.Canonical.{names_of}
+use Rattle.qtc_job_file.specs.Canonical.{names_of}
 use Rattle.qtc_job.specs.Codes.{earlier_names, own_above}
 use Rattle.qtc_job.specs.Drafts.{IsDraft}
 use Rattle.qtc_job.specs.Lines.{says}

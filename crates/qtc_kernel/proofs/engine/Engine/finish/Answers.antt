@@ -1,11 +1,14 @@
-use Rattle.std.proofs.Common.{◌≡◌, ◌∷◌, ℕ, List, IfSome, false, length, sym, subst, arith}
+use Rattle.std.proofs.Common.{◌≡◌, ◌∷◌, ◌++◌, [], ℕ, List, IfSome, false, ap, length, sym, subst, arith, ◌∙◌}
+use Rattle.std.proofs.lemmas.List.{length-map}
 use Rattle.std.proofs.lemmas.List.Elements.{All-pop}
 use Rattle.qtc_shared.specs.Passes.{PassState}
 use Rattle.qtc_kernel.specs.Crews.{DeskState, IsCrew, IsDesk, work_of}
-use Rattle.qtc_kernel.specs.WorkedOut.{IsWorkedOut}
+use Rattle.qtc_kernel.specs.Endings.{functions_at}
+use Rattle.qtc_kernel.specs.Runs.{times_called}
+use Rattle.qtc_kernel.specs.WorkedOut.{AreContinued, IsWorkedOut, calls_of}
 use Rattle.qtc_kernel.proofs.Boards.{ok_from}
 use Rattle.qtc_kernel.proofs.Opening.{popped_length}
-use Rattle.qtc_kernel.proofs.Settling.{worked_out}
+use Rattle.qtc_kernel.proofs.Settling.{calls_turned, handed_back, worked_out}
 use Rattle.qtc_kernel.proofs.engine.Engine.finish.Goals as goal
 
 pub unwrap-first-requires : goal.unwrap-first-requires
@@ -20,7 +23,7 @@ work_off-requires-clause-first g c κs within =
 
 pub work_off-requires-clause-out : goal.work_off-requires-clause-out
 work_off-requires-clause-out g c κs within =
-    let P : DeskState g.row.F.Denot → Type 0 = λ desk. desk.is_in ≡ false in
+    let P : DeskState g.row.F.Denot → Type 0 = λ desk. desk.badge.is_in ≡ false in
     subst (λ o. IfSome o P) c.unwrap-first.ensures (All-pop P c.args.desks.items c.pop.new.self.items c.pop.result c.pop.ensures.items c.requires.out).1
 
 pub work_off-requires-clause-others : goal.work_off-requires-clause-others
@@ -35,11 +38,19 @@ returns-clause-worked g c =
     let fits = subst (IsCrew value) c.self.view_is c.self.invariant.crew in
     let first = c.work_off.new.first in
     let others = c.work_off.new.others.items in
-    let calls = c.in_ok-calls.field-0 in
+    let calls = c.in_ok-calls.calls in
     let long = popped_length c.args.desks.items c.pop.new.self.items c.pop.result c.unwrap-first.result c.pop.ensures.items c.unwrap-first.ensures in
-    let count : length (first ∷ others) ≡ crew.counter.workers = omega (arith, long, c.work_off.ensures.count, c.requires.desks.count) in
-    subst (λ (p : PassState (List ℕ)). IsWorkedOut (work_of value crew) crew.sizes crew.future.terms p.known calls) (sym c.pass.view_is)
-    (worked_out value called crew fits first others c.settle-pass.result.known c.settle-pass.ensures.settled count
+    let same : length others ≡ length c.pop.new.self.items = sym (length-map others (λ desk. desk.function)) ∙ ap length c.work_off.ensures.functions ∙ length-map c.pop.new.self.items (λ desk. desk.function) in
+    let count : length (first ∷ others) ≡ crew.counter.workers = omega (arith, long, same, c.requires.desks.count) in
+    let are = ok_from _ c.calls_of.result calls c.in_ok-calls.was c.calls_of.ensures in
+    worked_out value called crew fits first others c.settle-pass.result.0.known c.settle-pass.ensures.settled count
     c.work_off.ensures.first c.work_off.ensures.others c.work_off.ensures.met c.work_off.ensures.over
     (c.none_lacks-had_memory.ensures.first c.if-not-had_memory.false) (c.none_lacks-had_memory.ensures.others c.if-not-had_memory.false)
-    calls (ok_from _ c.calls_of-calls.result calls c.in_ok-calls.was c.calls_of-calls.ensures))
+    calls (λ index. ap (λ list. times_called list index) (are ∙ ap (calls_of called) (c.settle-pass.ensures.functions c.if-not-has_room.false ∙ ap (λ fs. fs ++ functions_at (others ++ first ∷ [])) c.new-functions.ensures.items)) ∙ calls_turned value called crew first others index)
+
+pub returns-clause-functions : goal.returns-clause-functions
+returns-clause-functions g c =
+    let value = g.F.ItemFn.value in
+    let called = g.F.ItemFn.called in
+    subst (AreContinued value called (functions_at c.args.desks.items)) (sym (c.settle-pass.ensures.functions c.if-not-has_room.false ∙ ap (λ fs. fs ++ functions_at (c.work_off.new.others.items ++ c.work_off.new.first ∷ [])) c.new-functions.ensures.items))
+    (handed_back value called c.args.desks.items c.pop.new.self.items c.work_off.new.others.items c.pop.result c.unwrap-first.result c.work_off.new.first c.pop.ensures.items c.unwrap-first.ensures c.work_off.ensures.functions c.work_off.ensures.function)

@@ -1,13 +1,20 @@
-use Rattle.std.proofs.Common.{ℕ, List, [], All, true, refl, sym, subst}
+use Rattle.std.proofs.Common.{◌≡◌, ℕ, List, [], All, true, ap, arith, refl, sym, subst, ◌∙◌}
 use Rattle.std.proofs.lemmas.List.Elements.{All-weaker}
 use Rattle.qtc_events.specs.declared.calls.Call.TheVariants.{Cancel}
-use Rattle.qtc_future.specs.Future.{Logged}
+use Rattle.qtc_future.specs.declared.requests.Request.TheVariants.{Cancel as AskCancel}
 use Rattle.qtc_shared.specs.Journals.{calls_by}
+use Rattle.qtc_shared.specs.Passes.{PassState}
 use Rattle.qtc_kernel.specs.Crews.{IsOwnCall, work_of}
-use Rattle.qtc_kernel.specs.Working.{IsGivingUp}
-use Rattle.qtc_kernel.proofs.AtDesks.{desk_given_up, own_cancel, own_lacking}
-use Rattle.qtc_kernel.proofs.Passing.{HasCalled, called_end, called_on, called_own, canceled_ends, canceled_stood}
+use Rattle.qtc_kernel.specs.Turns.{HasMade}
+use Rattle.qtc_kernel.specs.Working.{IsLeaving}
+use Rattle.qtc_kernel.proofs.AtDesks.{desk_leaves, own_cancel, own_more}
+use Rattle.qtc_kernel.proofs.Passing.{HasCalled, called_end, called_on, called_own, canceled_ends, canceled_stood, goes_further, goes_same, knows_met, stayed_on, stayed_own}
 use Rattle.qtc_kernel.proofs.engine.Engine.give_up.Goals as goal
+
+pub gather-requires-clause-ended : goal.gather-requires-clause-ended
+gather-requires-clause-ended g c κs within =
+    let hold = c.cancel.ensures in
+    called_end c.desk.inside.pass c.cancel.new.pass Cancel [] (record { journal = hold.journal; met = hold.met; future = hold.done.future; pass = hold.pass }) canceled_ends canceled_stood
 
 pub returns-clause-desk : goal.returns-clause-desk
 returns-clause-desk g c =
@@ -15,17 +22,34 @@ returns-clause-desk g c =
     let called = g.F.ItemFn.called in
     let crew = c.args.self.now in
     let work = work_of value crew in
-    let giving = subst (λ d. IsGivingUp value called crew d c.args.piece) (sym c.desk.view_is) c.requires in
+    let leaving = subst (λ d. IsLeaving value called crew d c.args.piece) (sym c.desk.view_is) c.requires in
     let old = c.desk.inside.pass in
-    let new = c.cancel.new.pass in
+    let mid = c.cancel.new.pass in
+    let new = c.gather.new.pass in
     let hold = c.cancel.ensures in
-    let made : HasCalled old new Cancel [] = record { journal = hold.journal; met = hold.met; future = hold.done.future; pass = hold.pass } in
-    let before : All (λ logged. IsOwnCall work true logged.entry.call logged.item) (calls_by old.number old.known) =
-    All-weaker (λ (logged : Logged (List ℕ)). IsOwnCall work c.desk.inside.lacks logged.entry.call logged.item) (λ logged. IsOwnCall work true logged.entry.call logged.item)
-    (λ logged. own_lacking work c.desk.inside.lacks logged.entry.call logged.item) (calls_by old.number old.known) giving.seated.own
+    let calls = called c.desk.inside.function in
+    let made : HasCalled old mid Cancel [] = record { journal = hold.journal; met = hold.met; future = hold.done.future; pass = hold.pass } in
+    let before : All (IsOwnCall work true calls) (calls_by old.number old.known) =
+    All-weaker (IsOwnCall work c.desk.inside.lacks calls) (IsOwnCall work true calls)
+    (λ logged. own_more work c.desk.inside.lacks true calls calls logged (λ lacks. refl) (λ index. omega arith)) (calls_by old.number old.known) leaving.own
     in
-    desk_given_up value called crew _ _ c.args.piece giving
-    (record { of = refl; number = refl; given = refl; on = called_on old new Cancel [] made; same_value = refl; turn = refl })
-    (called_own old new Cancel [] made (λ logged. IsOwnCall work true logged.entry.call logged.item) before (λ logged call item. own_cancel work logged call))
-    refl refl
-    (called_end old new Cancel [] made canceled_ends canceled_stood)
+    desk_leaves value called crew _ _ c.args.piece leaving
+    (record { of = refl; badge = refl; number = refl; given = refl; on = goes_further old mid new (called_on old mid Cancel [] made refl) (stayed_on mid new c.gather.ensures.pass); same_value = refl; turn = refl })
+    (subst (All (IsOwnCall work true calls)) (sym (stayed_own mid new c.gather.ensures.pass))
+    (called_own old mid Cancel [] made (IsOwnCall work true calls) before (λ logged call item. own_cancel work calls logged call)))
+    refl c.gather.ensures.left
+
+pub returns-clause-turn : goal.returns-clause-turn
+returns-clause-turn g c =
+    let old = c.desk.inside.pass in
+    let mid = c.cancel.new.pass in
+    let new = c.gather.new.pass in
+    let hold = c.cancel.ensures in
+    let cancels : HasMade old new AskCancel = record { before = old; after = mid; effect = c.cancel.result; earlier = goes_same old; made = hold; later = stayed_on mid new c.gather.ensures.pass } in
+    record {
+      stays = record { seat = ap (λ d. d.seat) c.desk.view_is; number = ap (λ (p : PassState (List ℕ)). p.number) (c.gather.ensures.pass.pass) ∙ ap (λ (p : PassState (List ℕ)). p.number) hold.pass ∙ ap (λ d. d.pass.number) c.desk.view_is; function = ap (λ d. d.function) c.desk.view_is; looks = ap (λ (p : PassState (List ℕ)). p.looks) c.gather.ensures.pass.pass ∙ ap (λ (p : PassState (List ℕ)). p.looks) hold.pass ∙ ap (λ d. d.pass.looks) c.desk.view_is; badge = ap (λ d. d.badge) c.desk.view_is };
+      turn_is = refl;
+      lacks = refl;
+      cancels = subst (λ p. HasMade p new AskCancel) (ap (λ d. d.pass) c.desk.view_is) cancels;
+      met = knows_met new c.gather.ensures.left.ended;
+    }

@@ -2,7 +2,9 @@ use Rattle.std.proofs.Common.{◌≡◌, ℕ, List, ◌+◌, nat_lt, cond, lengt
 use Rattle.std.specs.Prelude.{slice_index}
 use Rattle.qtc_claim.specs.Counter.{ClaimsNone, ClaimsPiece, CounterId}
 use Rattle.qtc_kernel.specs.Crews.{IsCrew, IsDesk}
+use Rattle.qtc_kernel.specs.Desks.{desk_state}
 use Rattle.qtc_kernel.specs.Turns.{IsTurn}
+use Rattle.qtc_kernel.proofs.AtDesks.{desk_looked}
 use Rattle.qtc_kernel.proofs.Turning.{at_work, found_nothing, turn_told}
 use Rattle.qtc_kernel.proofs.engine.Engine.turn.Goals as goal
 
@@ -17,8 +19,8 @@ returns-in_default-clause-desk g c =
     found_nothing value called crew fits _ desk _ c.meets_end.ensures.looked (c.in_default.ensures.of ∙ counter) refl refl refl _
     (subst (λ (id : CounterId). ClaimsNone id.n (slice_index c.as_slice.result.now c.desk.inside.turn) c.desk.inside.seat.worker c.claim.new.seat.worker) counter c.in_default.ensures.none) refl
 
-pub work-requires-after_bounds : goal.work-requires-after_bounds
-work-requires-after_bounds g c κs within =
+pub work_on-requires-after_bounds : goal.work_on-requires-after_bounds
+work_on-requires-after_bounds g c κs within =
     let value = g.F.ItemFn.value in
     let called = g.F.ItemFn.called in
     let crew = c.args.self.now in
@@ -47,16 +49,23 @@ returns-clause-turn g c =
     (subst (λ (id : CounterId). ClaimsPiece id (slice_index c.as_slice.result.now c.desk.inside.turn) c.desk.inside.seat.worker c.claim.new.seat.worker c.in-Some.piece) counter c.in-Some.ensures.piece)
     in
     let turn = c.next_turn-desk-inside.ensures ∙ ap (λ len. cond (nat_lt (c.desk.inside.turn + 1) len) (c.desk.inside.turn + 1) 0) (c.len.ensures ∙ ap length sizes) in
-    subst (λ old. IsTurn value called crew old c.work.new.desk c.work.result) c.desk.view_is
+    subst (λ old. IsTurn value called crew old c.work_on.new.desk c.work_on.result) c.desk.view_is
     (turn_told value called crew fits _ desk
     (record {
       seat = c.claim.new.seat;
       pass = c.meets_end.new.pass;
       function = c.desk.inside.function;
       turn = c.next_turn-desk-inside.result;
-      given_up = c.desk.inside.given_up;
-      is_in = c.desk.inside.is_in;
+      badge = c.desk.inside.badge;
       lacks = c.desk.inside.lacks;
     })
     c.meets_end.ensures.looked (c.in-Some.ensures.of ∙ counter) refl refl refl c.in-Some.piece claim (c.meets_end.ensures.going c.if-meets_end.false) turn
-    c.work.new.desk c.work.result c.work.ensures.stays.seat c.work.ensures.turn)
+    c.work_on.new.desk c.work_on.result (c.meets_end.ensures.free c.if-meets_end.false) c.work_on.ensures.stays.looks c.work_on.ensures.stays.seat c.work_on.ensures.turn)
+
+pub returns-then-meets_end-clause-desk : goal.returns-then-meets_end-clause-desk
+returns-then-meets_end-clause-desk g c =
+    let value = g.F.ItemFn.value in
+    let called = g.F.ItemFn.called in
+    let crew = c.args.self.now in
+    let desk = subst (IsDesk value called crew) (sym c.desk.view_is) c.requires.desk in
+    desk_looked value called crew (desk_state c.desk.inside) _ desk refl refl refl c.meets_end.ensures.looked refl refl refl refl

@@ -1,102 +1,35 @@
-use Rattle.std.proofs.Common.{◌≡◌, ℕ, ◌+◌, ◌≤◌, ◌++◌, List, Some, ap, arith, refl, sym, subst, ◌∙◌}
-use Rattle.qtc_claim.specs.Claims.{clipped}
-use Rattle.qtc_claim.specs.Counter.{CounterId}
-use Rattle.qtc_shared.specs.Passes.{PassState}
-use Rattle.qtc_kernel.specs.Crews.{IsCrew, work_of}
-use Rattle.qtc_kernel.specs.Inside.{IsBlockOf, called_in}
-use Rattle.qtc_kernel.specs.Working.{IsAtWork, IsGivingUp, range_in}
-use Rattle.qtc_kernel.specs.Workload.{first_bad, indexes_of, size_of, workload}
-use Rattle.qtc_kernel.proofs.AtWork.{bad_in, giving_up, range_whole, worked_on}
-use Rattle.qtc_kernel.proofs.Passing.{looked_on, looked_same, stayed_on, stayed_own}
+use Rattle.std.proofs.Common.{◌≡◌, true, rules, sym, ◌∙◌}
+use Rattle.qtc_kernel.specs.Turns.{goes_on}
+use Rattle.qtc_kernel.proofs.Turning.{continues_by, lacks_did}
 use Rattle.qtc_kernel.proofs.engine.Engine.work.Goals as goal
 
-pub give_up-requires-after_bounds : goal.give_up-requires-after_bounds
-give_up-requires-after_bounds g c κs within =
-    let value = g.F.ItemFn.value in
-    let called = g.F.ItemFn.called in
-    let crew = c.args.self.now in
-    let h = subst (λ d. IsAtWork value called crew d c.args.piece) (sym c.desk.view_is) c.requires in
-    let bounds : (c.range-block.result.begin, c.range-block.result.end) ≡ range_in crew c.args.piece = c.range-block.ensures ∙ ap (λ (id : CounterId). clipped id.n c.args.piece.addition) c.requires.piece_is.of in
-    let calls = subst (λ b. called c.block_values.new.function ≡ called c.desk.inside.function ++ called_in (c.range-block.result.begin, c.range-block.result.end) b) c.in-Ok-Kept.field-0-is c.in-Ok-Kept.ensures.called in
-    let whole = range_whole crew.counter.n c.args.piece.addition in
-    subst (IsGivingUp value called crew _) (sym c.in-Err-hand_in.ensures.back)
-    (giving_up value called crew _ c.args.piece h _ refl (stayed_on c.desk.inside.pass c.hand_in.new.pass c.hand_in.ensures.pass) (stayed_own c.desk.inside.pass c.hand_in.new.pass c.hand_in.ensures.pass)
-    c.in-Ok-Kept.ensures.value_stays refl refl (range_in crew c.args.piece).1 whole.0 (omega arith) (subst (λ r. called c.block_values.new.function ≡ called c.desk.inside.function ++ indexes_of r) bounds calls))
+pub loop-preserved : goal.loop-preserved
+loop-preserved g c =
+    let was = c.loop.invariant in
+    let told = c.step-turn.ensures in
+    let did : goes_on c.step-turn.result ≡ true = sym c.is_did.ensures ∙ c.if-not-is_did.false in
+    record {
+      can = search rules;
+      finite = search rules;
+      desk = told.desk;
+      is_in = told.out ∙ did;
+      number = told.number ∙ was.number;
+      function = continues_by g.F.ItemFn.value g.F.ItemFn.called c.args.self.now c.args.desk.now c.loop.desk c.step-turn.new.desk c.step-turn.result c.requires.desk told.desk was.function told.turn;
+      lacks = told.lacks ∙ lacks_did c.loop.desk.lacks c.step-turn.result did ∙ was.lacks;
+    }
 
-pub fail-requires-clause-desk : goal.fail-requires-clause-desk
-fail-requires-clause-desk g c κs within =
-    let value = g.F.ItemFn.value in
-    let called = g.F.ItemFn.called in
-    let crew = c.args.self.now in
-    let h = subst (λ d. IsAtWork value called crew d c.args.piece) (sym c.desk.view_is) c.requires in
-    let bounds : (c.range-block.result.begin, c.range-block.result.end) ≡ range_in crew c.args.piece = c.range-block.ensures ∙ ap (λ (id : CounterId). clipped id.n c.args.piece.addition) c.requires.piece_is.of in
-    let calls = subst (λ b. called c.block_values.new.function ≡ called c.desk.inside.function ++ called_in (c.range-block.result.begin, c.range-block.result.end) b) c.in-Ok-Bad.field-0-is c.in-Ok-Bad.ensures.called in
-    let whole = range_whole crew.counter.n c.args.piece.addition in
-    let fits = subst (IsCrew value) c.self.view_is c.self.invariant.crew in
-    let inside : (range_in crew c.args.piece).1 ≤ size_of (work_of value crew) = let is = fits.indexes in let high = whole.1 in omega arith in
-    let job_is : workload c.self.inside.items.now (value c.desk.inside.function) ≡ work_of value crew =
-    λ i. workload ((c.self.invariant.items ∙ ap (λ crew'. crew'.items) c.self.view_is) i) (h.seated.valued i)
-    in
-    let first = subst (λ b. IsBlockOf (workload c.self.inside.items.now (value c.desk.inside.function)) (c.range-block.result.begin, c.range-block.result.end) b) c.in-Ok-Bad.field-0-is c.in-Ok-Bad.ensures.block in
-    let found = bad_in (work_of value crew) (range_in crew c.args.piece) c.in-Ok-Bad.index whole.0 inside (subst (λ r. first_bad (work_of value crew) r ≡ Some c.in-Ok-Bad.index) bounds (subst (λ w. first_bad w (c.range-block.result.begin, c.range-block.result.end) ≡ Some c.in-Ok-Bad.index) job_is first)) in
-    let low = found.low in
-    let high = found.high in
-    giving_up value called crew _ c.args.piece h _ refl (looked_on c.desk.inside.pass c.desk.inside.pass (looked_same c.desk.inside.pass c.desk.inside.pass refl)) refl
-    c.in-Ok-Bad.ensures.value_stays refl refl (c.in-Ok-Bad.index + 1) (omega arith) (omega arith)
-    (subst (λ (r : ℕ × ℕ). called c.block_values.new.function ≡ called c.desk.inside.function ++ indexes_of (r.0, c.in-Ok-Bad.index + 1)) bounds calls)
+pub returns-then-not-is_did-clause-function : goal.returns-then-not-is_did-clause-function
+returns-then-not-is_did-clause-function g c =
+    continues_by g.F.ItemFn.value g.F.ItemFn.called c.args.self.now c.args.desk.now c.loop.desk c.step-turn.new.desk c.step-turn.result c.requires.desk c.step-turn.ensures.desk c.loop.invariant.function c.step-turn.ensures.turn
 
-pub fail-requires-clause-bad : goal.fail-requires-clause-bad
-fail-requires-clause-bad g c κs within =
-    let value = g.F.ItemFn.value in
-    let called = g.F.ItemFn.called in
-    let crew = c.args.self.now in
-    let h = subst (λ d. IsAtWork value called crew d c.args.piece) (sym c.desk.view_is) c.requires in
-    let bounds : (c.range-block.result.begin, c.range-block.result.end) ≡ range_in crew c.args.piece = c.range-block.ensures ∙ ap (λ (id : CounterId). clipped id.n c.args.piece.addition) c.requires.piece_is.of in
-    let whole = range_whole crew.counter.n c.args.piece.addition in
-    let fits = subst (IsCrew value) c.self.view_is c.self.invariant.crew in
-    let inside : (range_in crew c.args.piece).1 ≤ size_of (work_of value crew) = let is = fits.indexes in let high = whole.1 in omega arith in
-    let job_is : workload c.self.inside.items.now (value c.desk.inside.function) ≡ work_of value crew =
-    λ i. workload ((c.self.invariant.items ∙ ap (λ crew'. crew'.items) c.self.view_is) i) (h.seated.valued i)
-    in
-    let first = subst (λ b. IsBlockOf (workload c.self.inside.items.now (value c.desk.inside.function)) (c.range-block.result.begin, c.range-block.result.end) b) c.in-Ok-Bad.field-0-is c.in-Ok-Bad.ensures.block in
-    (bad_in (work_of value crew) (range_in crew c.args.piece) c.in-Ok-Bad.index whole.0 inside (subst (λ r. first_bad (work_of value crew) r ≡ Some c.in-Ok-Bad.index) bounds (subst (λ w. first_bad w (c.range-block.result.begin, c.range-block.result.end) ≡ Some c.in-Ok-Bad.index) job_is first))).failing
-
-pub give_up-requires-in-Err-after_bounds : goal.give_up-requires-in-Err-after_bounds
-give_up-requires-in-Err-after_bounds g c κs within =
-    let value = g.F.ItemFn.value in
-    let called = g.F.ItemFn.called in
-    let crew = c.args.self.now in
-    let h = subst (λ d. IsAtWork value called crew d c.args.piece) (sym c.desk.view_is) c.requires in
-    let bounds : (c.range-block.result.begin, c.range-block.result.end) ≡ range_in crew c.args.piece = c.range-block.ensures ∙ ap (λ (id : CounterId). clipped id.n c.args.piece.addition) c.requires.piece_is.of in
-    let front = c.in-Err.ensures.front in
-    let first : c.range-block.result.begin ≡ (range_in crew c.args.piece).0 = ap (λ (r : ℕ × ℕ). r.0) bounds in
-    let last : c.range-block.result.end ≡ (range_in crew c.args.piece).1 = ap (λ (r : ℕ × ℕ). r.1) bounds in
-    let low = front.low in
-    let high = front.high in
-    giving_up value called crew _ c.args.piece h _ refl (looked_on c.desk.inside.pass c.desk.inside.pass (looked_same c.desk.inside.pass c.desk.inside.pass refl)) refl
-    c.in-Err.ensures.value_stays refl refl front.at (omega arith) (omega arith)
-    (subst (λ begin. called c.block_values.new.function ≡ called c.desk.inside.function ++ indexes_of (begin, front.at)) first front.calls)
-
-pub returns-in-Ok-true-clause-desk : goal.returns-in-Ok-true-clause-desk
-returns-in-Ok-true-clause-desk g c =
-    let value = g.F.ItemFn.value in
-    let called = g.F.ItemFn.called in
-    let crew = c.args.self.now in
-    let h = subst (λ d. IsAtWork value called crew d c.args.piece) (sym c.desk.view_is) c.requires in
-    let bounds : (c.range-block.result.begin, c.range-block.result.end) ≡ range_in crew c.args.piece = c.range-block.ensures ∙ ap (λ (id : CounterId). clipped id.n c.args.piece.addition) c.requires.piece_is.of in
-    let calls = subst (λ b. called c.block_values.new.function ≡ called c.desk.inside.function ++ called_in (c.range-block.result.begin, c.range-block.result.end) b) c.in-Ok-Kept.field-0-is c.in-Ok-Kept.ensures.called in
-    worked_on value called crew _ c.args.piece h _ refl (stayed_on c.desk.inside.pass c.hand_in.new.pass c.hand_in.ensures.pass) (stayed_own c.desk.inside.pass c.hand_in.new.pass c.hand_in.ensures.pass)
-    c.in-Ok-Kept.ensures.value_stays refl refl _ refl (subst (λ r. called c.block_values.new.function ≡ called c.desk.inside.function ++ indexes_of r) bounds calls)
-    c.in-Ok-true.ensures.ok (ap (λ (p : PassState (List ℕ)). p.seen) c.hand_in.ensures.pass.pass)
-
-pub returns-in-Ok-false-clause-desk : goal.returns-in-Ok-false-clause-desk
-returns-in-Ok-false-clause-desk g c =
-    let value = g.F.ItemFn.value in
-    let called = g.F.ItemFn.called in
-    let crew = c.args.self.now in
-    let h = subst (λ d. IsAtWork value called crew d c.args.piece) (sym c.desk.view_is) c.requires in
-    let bounds : (c.range-block.result.begin, c.range-block.result.end) ≡ range_in crew c.args.piece = c.range-block.ensures ∙ ap (λ (id : CounterId). clipped id.n c.args.piece.addition) c.requires.piece_is.of in
-    let calls = subst (λ b. called c.block_values.new.function ≡ called c.desk.inside.function ++ called_in (c.range-block.result.begin, c.range-block.result.end) b) c.in-Ok-Kept.field-0-is c.in-Ok-Kept.ensures.called in
-    worked_on value called crew _ c.args.piece h _ refl (stayed_on c.desk.inside.pass c.hand_in.new.pass c.hand_in.ensures.pass) (stayed_own c.desk.inside.pass c.hand_in.new.pass c.hand_in.ensures.pass)
-    c.in-Ok-Kept.ensures.value_stays refl refl _ refl (subst (λ r. called c.block_values.new.function ≡ called c.desk.inside.function ++ indexes_of r) bounds calls)
-    c.in-Ok-false.ensures.ok (ap (λ (p : PassState (List ℕ)). p.seen) c.hand_in.ensures.pass.pass)
+pub returns-then-not-is_did-clause-turn : goal.returns-then-not-is_did-clause-turn
+returns-then-not-is_did-clause-turn g c =
+    let was = c.loop.invariant in
+    record {
+      before = c.loop.desk;
+      desk = was.desk;
+      number = was.number;
+      function = was.function;
+      turn_is = c.step-turn.ensures.turn;
+      over = sym c.is_did.ensures ∙ c.if-not-is_did.true;
+    }

@@ -1,5 +1,5 @@
 use Rattle.std.proofs.Common.{◌<◌, arith, lt-ltb}
-use Rattle.qtc_pool_core.specs.Machine.{most_reserved}
+use Rattle.qtc_base.specs.Limits.{most_reserved}
 use Rattle.qtc_pool_core.specs.declared.entries.PoolEntry.TheVariants.{Reserved}
 use Rattle.qtc_pool_core.proofs.Replay.{entered, may_stand, replays-step}
 use Rattle.qtc_pool_core.proofs.pool_core.PoolCore.reserve.Goals as goal

@@ -1,6 +1,6 @@
 use Rattle.std.proofs.Common.{arith, lt-ltb, le-leb}
 use Rattle.std.proofs.lemmas.Bool.{and_from}
-use Rattle.qtc_pool_core.specs.Machine.{most_threads}
+use Rattle.qtc_base.specs.Limits.{most_threads}
 use Rattle.qtc_pool_core.specs.declared.entries.PoolEntry.TheVariants.{MaxSet}
 use Rattle.qtc_pool_core.proofs.Replay.{entered, may_stand, replays-step}
 use Rattle.qtc_pool_core.proofs.pool_core.PoolCore.set_max.Goals as goal

@@ -19,7 +19,7 @@ join_seat-requires g c = (
 pub load-word-requires : goal.load-word-requires
 load-word-requires g c =
     let pass = pass_in c.args.seat.now.me.0.passes in
-    let book : BookPart _ = record { journal = c.args.book.core.value.calls; made = c.args.book.made.count; ended = c.requires.book.ended } in
+    let book : BookPart _ = record { journal = c.args.book.core.value.calls; made = c.args.book.made.count } in
     let me = joined_me c.args.self.now pass book c.args.seat.now c.args.book.seat c.join_seat.new.seat c.requires.pass c.requires.book.me c.join_seat.ensures.2 in (
       c.join_seat.ensures.0 ∙ at_table c.self.inside _ c.self.view_is c.args.seat.now c.requires.pass.at,
       has_word c.self.inside _ c.self.view_is c.self.invariant,
@@ -29,20 +29,20 @@ load-word-requires g c =
 pub returns-clause-met : goal.returns-clause-met
 returns-clause-met g c =
     let pass = pass_in c.args.seat.now.me.0.passes in
-    let book : BookPart _ = record { journal = c.args.book.core.value.calls; made = c.args.book.made.count; ended = c.requires.book.ended } in
+    let book : BookPart _ = record { journal = c.args.book.core.value.calls; made = c.args.book.made.count } in
     let me = joined_me c.args.self.now pass book c.args.seat.now c.args.book.seat c.join_seat.new.seat c.requires.pass c.requires.book.me c.join_seat.ensures.2 in
     met c.args.self.now pass book _ _ (ap (λ m. m.0) me) c.load-word.ensures.2.1.1
 
 pub returns-clause-number : goal.returns-clause-number
 returns-clause-number g c =
     let pass = pass_in c.args.seat.now.me.0.passes in
-    let book : BookPart _ = record { journal = c.args.book.core.value.calls; made = c.args.book.made.count; ended = c.requires.book.ended } in
+    let book : BookPart _ = record { journal = c.args.book.core.value.calls; made = c.args.book.made.count } in
     let me = joined_me c.args.self.now pass book c.args.seat.now c.args.book.seat c.join_seat.new.seat c.requires.pass c.requires.book.me c.join_seat.ensures.2 in
     below c.args.self.now pass book 0 _ _ (ap (λ m. m.0) me) c.load-word.ensures.2.1.1
 
 pub returns-clause-fresh : goal.returns-clause-fresh
 returns-clause-fresh g c =
     let pass = pass_in c.args.seat.now.me.0.passes in
-    let book : BookPart _ = record { journal = c.args.book.core.value.calls; made = c.args.book.made.count; ended = c.requires.book.ended } in
+    let book : BookPart _ = record { journal = c.args.book.core.value.calls; made = c.args.book.made.count } in
     let me = joined_me c.args.self.now pass book c.args.seat.now c.args.book.seat c.join_seat.new.seat c.requires.pass c.requires.book.me c.join_seat.ensures.2 in
     unused c.args.self.now pass book _ _ (ap (λ m. m.0) me) c.load-word.ensures.2.1.1

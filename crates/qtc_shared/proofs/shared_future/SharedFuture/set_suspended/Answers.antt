@@ -7,7 +7,7 @@ use Rattle.qtc_shared.proofs.shared_future.SharedFuture.set_suspended.Goals as g
 
 pub enter-requires-clause-call : goal.enter-requires-clause-call
 enter-requires-clause-call g c = λ κs le.
-    let of = c.self.inside.desk.word in
+    let of = c.self.inside.locked.word in
     let lent = c.lend-lent.result.0 in
     let core = c.deref_mut.result.now in
     let calls = lent.core.value.calls in

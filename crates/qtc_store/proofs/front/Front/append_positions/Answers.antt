@@ -1,6 +1,6 @@
 use Rattle.std.proofs.Common.{◌∷◌, [], ◌++◌, length, map, take, ap, sym, ◌∙◌, append_assoc, arith}
 use Rattle.qtc_store.specs.Inside.{batches_of}
-use Rattle.qtc_store.specs.Stored.{bounds_of}
+use Rattle.qtc_base.specs.Ranges.{bounds_of}
 use Rattle.qtc_store.specs.Visible.{positions, position_ranges}
 use Rattle.qtc_store.proofs.FrontLemmas.{values_here, positions_here}
 use Rattle.qtc_store.proofs.front.Front.append_positions.Goals as goal

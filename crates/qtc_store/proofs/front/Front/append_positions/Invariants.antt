@@ -1,6 +1,6 @@
 use Rattle.std.proofs.Common.{◌≡◌, ◌++◌, map, take}
 use Rattle.qtc_store.specs.Inside.{batches_of}
-use Rattle.qtc_store.specs.Stored.{bounds_of}
+use Rattle.qtc_base.specs.Ranges.{bounds_of}
 use Rattle.qtc_store.specs.Visible.{position_ranges}
 use Rattle.qtc_store.proofs.front.Front.append_positions.Given as goal
 

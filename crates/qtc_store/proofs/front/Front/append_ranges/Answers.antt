@@ -2,7 +2,7 @@ use Rattle.std.proofs.Common.{◌∷◌, [], ◌++◌, map, take, ap, sym, ◌�
 use Rattle.qtc_store.specs.Batches.{end_of}
 use Rattle.qtc_store.specs.Inside.{batches_of}
 use Rattle.qtc_store.specs.Results.{result_ranges}
-use Rattle.qtc_store.specs.Stored.{bounds_of}
+use Rattle.qtc_base.specs.Ranges.{bounds_of}
 use Rattle.qtc_store.proofs.FrontLemmas.{end_here, ranges_here}
 use Rattle.qtc_store.proofs.front.Front.append_ranges.Goals as goal
 

@@ -2,7 +2,7 @@ use Rattle.std.proofs.Common.{◌≡◌, ◌++◌, ◌≤◌, map}
 use Rattle.qtc_store.specs.Batches.{greatest_end}
 use Rattle.qtc_store.specs.Inside.{waiting_in}
 use Rattle.qtc_store.specs.Results.{result_ranges}
-use Rattle.qtc_store.specs.Stored.{bounds_of}
+use Rattle.qtc_base.specs.Ranges.{bounds_of}
 use Rattle.qtc_store.proofs.PendingLemmas.{batch_at}
 use Rattle.qtc_store.proofs.pending.Pending.append_ranges.Given as goal
 

@@ -1,7 +1,8 @@
 use Rattle.std.proofs.Common.{◌≡◌, ◌++◌, map, ap, sym, ◌∙◌, subst}
 use Rattle.qtc_store.specs.Inside.{met_in, waiting_in, batches_in}
 use Rattle.qtc_store.specs.Results.{result_ranges}
-use Rattle.qtc_store.specs.Stored.{bounds_of, ranges_of, AreRangesOf}
+use Rattle.qtc_store.specs.Stored.{ranges_of, AreRangesOf}
+use Rattle.qtc_base.specs.Ranges.{bounds_of}
 use Rattle.qtc_store.specs.Visible.{position_ranges}
 use Rattle.qtc_store.proofs.StoreLemmas.{waiting_within, positions_told, ranges_of_both, ranges_just}
 use Rattle.qtc_store.proofs.store.ResultStore.batches.Goals.{then-self+in_ok-append_positions, else-self+in_ok-append_ranges+in_ok-append_ranges-2}

@@ -1,8 +1,0 @@
-use Rattle.std.proofs.Common.{take, []}
-use Rattle.qtc_run.specs.Sources.{names_of_all}
-use Rattle.qtc_cli.specs.LoadSteps.{LoadsMore}
-use Rattle.qtc_cli.proofs.loads.load_texts.Given as goal
-
-abbrev pub invariant-loop-job : goal.invariant-loop-job
-invariant-loop-job g l =
-    LoadsMore (names_of_all (take l.job-index l.file.jobs)) [] (g.T.Texts.source l.fn.texts) l.shelf.loaded (g.T.Texts.source l.texts)

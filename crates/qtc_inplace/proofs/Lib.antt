@@ -1,0 +1,10 @@
+pub mod CallLemmas
+pub mod CountLemmas
+pub mod KeepLemmas
+pub mod ListLemmas
+pub mod MapLemmas
+pub mod OperationLemmas
+pub mod PlanLemmas
+pub mod RunLemmas
+pub mod SpreadLemmas
+pub mod WorkLemmas

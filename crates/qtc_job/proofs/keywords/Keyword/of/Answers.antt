@@ -1,6 +1,0 @@
-use Rattle.qtc_job.specs.Keywords.{keyword_of}
-use Rattle.qtc_job.proofs.keywords.Keyword.of.Goals as goal
-
-pub returns : goal.returns
-unfolding keyword_of
-returns c = c.one_of.ensures

@@ -1,4 +1,0 @@
-use Rattle.qtc_lock.proofs.tests.seated.locked.Given as goal
-
-abbrev pub ghosts-new : goal.ghosts-new
-ghosts-new g a = record { key = g.J.Names.key; named = g.J.Names.named }

@@ -3,7 +3,7 @@ use Rattle.std.specs.Prelude.{◌≡◌, ℕ, List, Option, Some, None, IfSome}
 use Rattle.qtc_cli.specs.declared.command_forms.Task.{Task}
 use Rattle.qtc_cli.specs.declared.command_forms.Task.TheVariants.{Run, Check}
 use Rattle.qtc_cli.specs.declared.command_forms.Command.{Command}
-use Rattle.qtc_cli.specs.Forms.{Form, IsCrew, run, check}
+use Rattle.qtc_cli.specs.Forms.{Form, IsWorkerCount, run, check}
 
 abbrev pub form_said : Task → List ℕ → Form
 form_said (Run workers) job = run workers job
@@ -15,6 +15,6 @@ Says form None = form ≡ None
 Says form (Some command) = form ≡ Some (form_said command.task command.job.now)
 
 -- a number of workers is one that a run may have
-abbrev pub HasCrew : Task → Type 0
-HasCrew (Run workers) = IfSome workers IsCrew
-HasCrew Check = Unit {0}
+abbrev pub HasWorkerCount : Task → Type 0
+HasWorkerCount (Run workers) = IfSome workers IsWorkerCount
+HasWorkerCount Check = Unit {0}

@@ -11,8 +11,8 @@ pub data Form : Type 0 where
   check : List ℕ → Form
 
 -- as many workers as a run may have
-abbrev pub IsCrew : ℕ → Type 0
-IsCrew number = (1 ≤ number) × (number ≤ most_workers)
+abbrev pub IsWorkerCount : ℕ → Type 0
+IsWorkerCount number = (1 ≤ number) × (number ≤ most_workers)
 
 -- 1 to 10 digits for 1 to 32
 abbrev pub is_workers : List ℕ → Bool

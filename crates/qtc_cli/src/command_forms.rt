@@ -1,6 +1,6 @@
 ghost use Rattle.std.specs.Prelude.{◌≡◌, map, string_bytes, Some, None, IfSome, if◌then◌else◌};
-ghost use Rattle.qtc_cli.specs.Forms.{form, form_of_two, form_of_four, is_workers, IsCrew};
-ghost use Rattle.qtc_cli.specs.Commands.{Says, HasCrew};
+ghost use Rattle.qtc_cli.specs.Forms.{form, form_of_two, form_of_four, is_workers, IsWorkerCount};
+ghost use Rattle.qtc_cli.specs.Commands.{Says, HasWorkerCount};
 ghost use Rattle.qtc_base.specs.Decimal.{number_of};
 
 use qtc_base::read_decimal;
@@ -27,7 +27,7 @@ pub struct Command<'a> {
 /// The number of workers that a word spells: 1 to 10 digits for 1 to 32.
 fn workers_of(word: &[u8]) -> Option<u32>
     ensures spelled { result ≡ (if is_workers word.now then Some (number_of word.now) else None) }
-    ensures few { IfSome result IsCrew }
+    ensures few { IfSome result IsWorkerCount }
 {
     let Some(number) = read_decimal(word, 10) else {
         return None;
@@ -44,7 +44,7 @@ fn workers_of(word: &[u8]) -> Option<u32>
 /// What two words ask for.
 fn command_of_two<'a>(command: &[u8], job: &'a [u8]) -> Option<Command<'a>>
     ensures says { Says (form_of_two command.now job.now) result }
-    ensures crew { IfSome result (λ command. HasCrew command.task) }
+    ensures workers { IfSome result (λ command. HasWorkerCount command.task) }
 {
     if command == b"run".as_slice() {
         return Some(Command {
@@ -69,7 +69,7 @@ fn command_of_four<'a>(
     job: &'a [u8],
 ) -> Option<Command<'a>>
     ensures says { Says (form_of_four command.now option.now number.now job.now) result }
-    ensures crew { IfSome result (λ command. HasCrew command.task) }
+    ensures workers { IfSome result (λ command. HasWorkerCount command.task) }
 {
     if command != b"run".as_slice() || option != b"--workers".as_slice() {
         return None;
@@ -84,7 +84,7 @@ fn command_of_four<'a>(
 /// What the words ask for; None where they have no form.
 pub fn command_of(words: &[String]) -> Option<Command<'_>>
     ensures says { Says (form (map string_bytes words.now)) result }
-    ensures crew { IfSome result (λ command. HasCrew command.task) }
+    ensures workers { IfSome result (λ command. HasWorkerCount command.task) }
 {
     match words {
         [command, job] => command_of_two(command.as_bytes(), job.as_bytes()),

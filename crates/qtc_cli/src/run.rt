@@ -1,7 +1,7 @@
 ghost use Rattle.std.specs.Prelude.{◌≡◌, ◌≤◌, None, map, string_bytes, IfOk, IfErr, IfSome};
 ghost use Rattle.qtc_run.specs.Sums.{IsCountable};
 ghost use Rattle.qtc_cli.specs.Endings.{IsRefused};
-ghost use Rattle.qtc_cli.specs.Forms.{IsCrew};
+ghost use Rattle.qtc_cli.specs.Forms.{IsWorkerCount};
 ghost use Rattle.qtc_cli.specs.Run.{IsRunOf, RunStops, RunEnds, IsCall, workers_of};
 ghost use Rattle.qtc_cli.specs.Seen.{seen};
 
@@ -37,10 +37,10 @@ struct Formed {
 
 /// How many workers run a file: as many as the words say, else as many as the file says.
 fn workers_of(words: Option<u32>, file: &JobFile) -> u32
-    requires words { IfSome words IsCrew }
+    requires words { IfSome words IsWorkerCount }
     requires file { IsCountable file.now }
     ensures is { result ≡ workers_of words file.now }
-    ensures few { IsCrew result }
+    ensures few { IsWorkerCount result }
 {
     words.unwrap_or(file.workers)
 }
@@ -55,7 +55,7 @@ fn form_run<T: Texts, G: Gate, R: Threads + Wait + Sync>(
     texts: &mut T,
     gate: &G,
 ) -> Result<Formed, Refusal>
-    requires { IfSome workers IsCrew }
+    requires { IfSome workers IsWorkerCount }
     ensures ok { IfOk result (λ f.
         IsRunOf name.now workers (T.source texts.old) f.report f.text (T.source texts.new)) }
     ensures err { IfErr result (λ refusal. RunStops name.now (T.source texts.old) refusal (T.source texts.new)) }
@@ -85,7 +85,7 @@ fn run_named<T: Texts, S: Sink, E: Sink, G: Gate, R: Threads + Wait + Sync>(
     err: &mut E,
     gate: &G,
 ) -> Ended
-    requires { IfSome workers IsCrew }
+    requires { IfSome workers IsWorkerCount }
     ensures { RunEnds name.now workers (T.source texts.old) (T.source texts.new) (S.intake out.old)
         (S.intake out.new) (E.intake err.old) (E.intake err.new) result.status result.report }
 {

@@ -14,7 +14,7 @@ use Rattle.qtc_ops.specs.ItemValue.{ItemValue}
 use Rattle.qtc_shared.specs.Journals.{calls_by}
 use Rattle.qtc_shared.specs.Passes.{PassState}
 use Rattle.qtc_shared.proofs.Prefixes.{begins_further}
-use Rattle.qtc_kernel.specs.Crews.{AreHandedIn, AreOwnCalls, AreWorkedOn, Crew, DeskState, IsDesk, IsFailedCall, IsLeft, IsOwnCall, IsSeated, given_at, is_own, opening, reporter, work_of}
+use Rattle.qtc_kernel.specs.EngineParts.{AreHandedIn, AreOwnCalls, AreWorkedOn, EngineParts, DeskState, IsDesk, IsFailedCall, IsLeft, IsOwnCall, IsSeated, given_at, is_own, opening, reporter, work_of}
 use Rattle.qtc_kernel.specs.Driving.{in_turn}
 use Rattle.qtc_kernel.specs.Endings.{IsMet}
 use Rattle.qtc_kernel.specs.Runs.{times_called}
@@ -58,84 +58,84 @@ own_fail work lacks calls index item logged failed call_is item_is = record {
     not_cancel : (index : ℕ) → Fail index ≡ Cancel → ⊥
     not_cancel index e = absurd (cc)
 
-module _ {F : Type 0} (value : F → List ℕ → ItemValue) (called : F → List ℕ) (crew : Crew F) where
+module _ {F : Type 0} (value : F → List ℕ → ItemValue) (called : F → List ℕ) (parts : EngineParts F) where
   -- what its pass knows grew, and its function does what it did
   pub record Follows (old new : DeskState F) : Type 0 where
     pub of : new.seat.of ≡ old.seat.of
     pub badge : new.badge.of ≡ old.badge.of
     pub number : new.seat.worker.number ≡ old.seat.worker.number
-    pub given : given_at crew.counter.n new ≡ given_at crew.counter.n old
+    pub given : given_at parts.counter.n new ≡ given_at parts.counter.n old
     pub on : GoesOn old.pass new.pass
     pub same_value : value new.function ≡ value old.function
     pub turn : new.turn ≡ old.turn
 
-  pub seated_on : (old new : DeskState F) → IsSeated value crew old → Follows old new → IsSeated value crew new
+  pub seated_on : (old new : DeskState F) → IsSeated value parts old → Follows old new → IsSeated value parts new
   seated_on old new seated follows = record {
     counter = follows.of ∙ seated.counter;
     future = follows.on.of ∙ seated.future;
     badge = follows.badge ∙ seated.badge;
     childless = follows.on.children ∙ seated.childless;
     numbered = follows.on.number ∙ seated.numbered ∙ sym follows.number;
-    below = subst (λ k. k < crew.counter.workers) (sym follows.number) seated.below;
+    below = subst (λ k. k < parts.counter.workers) (sym follows.number) seated.below;
     valued = follows.same_value ∙ seated.valued;
     opened = begins_further opening old.pass.known new.pass.known seated.opened follows.on.known;
-    turn = follows.turn ∙ seated.turn ∙ ap (λ given. length given % length crew.sizes) (sym follows.given);
-    sizes = subst (λ (given : List Addition). map (λ claim. claim.size) given ≡ in_turn crew.sizes (length given)) (sym follows.given) seated.sizes;
+    turn = follows.turn ∙ seated.turn ∙ ap (λ given. length given % length parts.sizes) (sym follows.given);
+    sizes = subst (λ (given : List Addition). map (λ claim. claim.size) given ≡ in_turn parts.sizes (length given)) (sym follows.given) seated.sizes;
   }
 
   -- its own calls are those that they were, and its function called more at most
-  pub own_on : (old new : DeskState F) → AreOwnCalls value called crew old → calls_by new.pass.number new.pass.known ≡ calls_by old.pass.number old.pass.known → new.lacks ≡ old.lacks
-      → ((index : ℕ) → times_called (called old.function) index ≤ times_called (called new.function) index) → AreOwnCalls value called crew new
+  pub own_on : (old new : DeskState F) → AreOwnCalls value called parts old → calls_by new.pass.number new.pass.known ≡ calls_by old.pass.number old.pass.known → new.lacks ≡ old.lacks
+      → ((index : ℕ) → times_called (called old.function) index ≤ times_called (called new.function) index) → AreOwnCalls value called parts new
   own_on old new own same lacks more =
-      subst (All (IsOwnCall (work_of value crew) new.lacks (called new.function))) (sym same)
-      (All-weaker (IsOwnCall (work_of value crew) old.lacks (called old.function)) (IsOwnCall (work_of value crew) new.lacks (called new.function))
-      (λ logged. own_more (work_of value crew) old.lacks new.lacks (called old.function) (called new.function) logged (λ is. lacks ∙ is) more) (calls_by old.pass.number old.pass.known) own)
+      subst (All (IsOwnCall (work_of value parts) new.lacks (called new.function))) (sym same)
+      (All-weaker (IsOwnCall (work_of value parts) old.lacks (called old.function)) (IsOwnCall (work_of value parts) new.lacks (called new.function))
+      (λ logged. own_more (work_of value parts) old.lacks new.lacks (called old.function) (called new.function) logged (λ is. lacks ∙ is) more) (calls_by old.pass.number old.pass.known) own)
 
   -- a desk that called nothing more
-  pub desk_on : (old new : DeskState F) → IsDesk value called crew old → Follows old new
+  pub desk_on : (old new : DeskState F) → IsDesk value called parts old → Follows old new
       → calls_by new.pass.number new.pass.known ≡ calls_by old.pass.number old.pass.known → new.lacks ≡ old.lacks → called new.function ≡ called old.function
-      → IsDesk value called crew new
+      → IsDesk value called parts new
   desk_on old new desk follows own lacks calls = record {
     seated = seated_on old new desk.seated follows;
     own = own_on old new desk.own own lacks (λ index. let is : times_called (called new.function) index ≡ times_called (called old.function) index = ap (λ list. times_called list index) calls in omega (arith, is));
     left = desk.left;
     one = desk.one;
-    left_are = All-weaker (IsLeft crew.counter.n (reporter crew) old.pass) (IsLeft crew.counter.n (reporter crew) new.pass) (left_on crew.counter.n (reporter crew) old.pass new.pass follows.on) desk.left desk.left_are;
+    left_are = All-weaker (IsLeft parts.counter.n (reporter parts) old.pass) (IsLeft parts.counter.n (reporter parts) new.pass) (left_on parts.counter.n (reporter parts) old.pass new.pass follows.on) desk.left desk.left_are;
     worked =
-        subst (λ given. AreWorkedOn crew.counter.n given desk.left (called new.function)) (sym follows.given)
-        (subst (AreWorkedOn crew.counter.n (given_at crew.counter.n old) desk.left) (sym calls) desk.worked);
-    handed = subst (λ given. AreHandedIn crew.counter.n (reporter crew) given new.pass) (sym follows.given)
-        (handed_on crew.counter.n (reporter crew) (given_at crew.counter.n old) old.pass new.pass follows.on desk.handed);
+        subst (λ given. AreWorkedOn parts.counter.n given desk.left (called new.function)) (sym follows.given)
+        (subst (AreWorkedOn parts.counter.n (given_at parts.counter.n old) desk.left) (sym calls) desk.worked);
+    handed = subst (λ given. AreHandedIn parts.counter.n (reporter parts) given new.pass) (sym follows.given)
+        (handed_on parts.counter.n (reporter parts) (given_at parts.counter.n old) old.pass new.pass follows.on desk.handed);
   }
 
   -- it has looked, and is in or out
-  pub desk_looked : (old new : DeskState F) → IsDesk value called crew old
+  pub desk_looked : (old new : DeskState F) → IsDesk value called parts old
       → new.seat.of ≡ old.seat.of → new.seat.worker.number ≡ old.seat.worker.number → new.seat.worker.claims ≡ old.seat.worker.claims
       → HasLooked old.pass new.pass → new.badge.of ≡ old.badge.of → new.function ≡ old.function → new.turn ≡ old.turn → new.lacks ≡ old.lacks
-      → IsDesk value called crew new
+      → IsDesk value called parts new
   desk_looked old new desk of number claims looked badge function turn lacks =
-      desk_on old new desk (record { of = of; badge = badge; number = number; given = ap (gave crew.counter.n) claims; on = looked_on old.pass new.pass looked; same_value = ap value function; turn = turn })
+      desk_on old new desk (record { of = of; badge = badge; number = number; given = ap (gave parts.counter.n) claims; on = looked_on old.pass new.pass looked; same_value = ap value function; turn = turn })
       (looked_own old.pass new.pass looked) lacks (ap called function)
 
   -- its worker is out
-  pub desk_left : (old new : DeskState F) → IsDesk value called crew old → new ≡ record old { badge = record old.badge { is_in = false } } → IsDesk value called crew new
+  pub desk_left : (old new : DeskState F) → IsDesk value called parts old → new ≡ record old { badge = record old.badge { is_in = false } } → IsDesk value called parts new
   desk_left old new desk is =
-      subst (IsDesk value called crew) (sym is)
+      subst (IsDesk value called parts) (sym is)
       (desk_looked old (record old { badge = record old.badge { is_in = false } }) desk refl refl refl (looked_same old.pass old.pass refl) refl refl refl refl)
 
   -- a piece is left, where an end stands
-  pub desk_leaves : (old new : DeskState F) (piece : PieceState) → IsLeaving value called crew old piece → Follows old new → AreOwnCalls value called crew new
-      → called new.function ≡ called old.function → IsLeft crew.counter.n (reporter crew) new.pass piece.addition
-      → IsDesk value called crew new
+  pub desk_leaves : (old new : DeskState F) (piece : PieceState) → IsLeaving value called parts old piece → Follows old new → AreOwnCalls value called parts new
+      → called new.function ≡ called old.function → IsLeft parts.counter.n (reporter parts) new.pass piece.addition
+      → IsDesk value called parts new
   desk_leaves old new piece leaving follows own calls left = record {
     seated = seated_on old new leaving.seated follows;
     own = own;
     left = piece.addition ∷ [];
     one = omega arith;
-    left_are = All-cons (IsLeft crew.counter.n (reporter crew) new.pass) piece.addition [] left (All-nil (IsLeft crew.counter.n (reporter crew) new.pass));
+    left_are = All-cons (IsLeft parts.counter.n (reporter parts) new.pass) piece.addition [] left (All-nil (IsLeft parts.counter.n (reporter parts) new.pass));
     worked =
-        subst (λ given. AreWorkedOn crew.counter.n given (piece.addition ∷ []) (called new.function)) (sym follows.given)
-        (subst (AreWorkedOn crew.counter.n (given_at crew.counter.n old) (piece.addition ∷ [])) (sym calls) leaving.part);
+        subst (λ given. AreWorkedOn parts.counter.n given (piece.addition ∷ []) (called new.function)) (sym follows.given)
+        (subst (AreWorkedOn parts.counter.n (given_at parts.counter.n old) (piece.addition ∷ [])) (sym calls) leaving.part);
     handed = inr (inl (knows_met new.pass left.ended));
   }
 

@@ -9,7 +9,7 @@ use Rattle.qtc_claim.specs.Counter.{PieceState, SeatState}
 use Rattle.qtc_future.specs.declared.requests.Request.TheVariants.{Cancel, Fail}
 use Rattle.qtc_ops.specs.ItemValue.{ItemValue, kept, dropped, bad}
 use Rattle.qtc_shared.specs.Journals.{calls_by}
-use Rattle.qtc_kernel.specs.Crews.{AreHandedIn, AreOwnCalls, AreWorkedOn, Crew, DeskState, IsDesk, IsLeft, IsSeated, given_at, ranges_by, reporter, work_of}
+use Rattle.qtc_kernel.specs.EngineParts.{AreHandedIn, AreOwnCalls, AreWorkedOn, EngineParts, DeskState, IsDesk, IsLeft, IsSeated, given_at, ranges_by, reporter, work_of}
 use Rattle.qtc_kernel.specs.Laws.{IsFailing}
 use Rattle.qtc_kernel.specs.Runs.{times_called}
 use Rattle.qtc_kernel.specs.Turns.{GoesOn}
@@ -53,43 +53,43 @@ calls_more calls calls' later is index =
     let all : times_called calls' index ≡ times_called calls index + times_called later index = ap (λ list. times_called list index) is ∙ calls-append index calls later in
     omega (arith, all)
 
-module _ {F : Type 0} (value : F → List ℕ → ItemValue) (called : F → List ℕ) (crew : Crew F) (old : DeskState F) (piece : PieceState) (h : IsAtWork value called crew old piece)
+module _ {F : Type 0} (value : F → List ℕ → ItemValue) (called : F → List ℕ) (parts : EngineParts F) (old : DeskState F) (piece : PieceState) (h : IsAtWork value called parts old piece)
     (new : DeskState F) (seat : new.seat ≡ old.seat) (badge : new.badge ≡ old.badge) (on : GoesOn old.pass new.pass) (own : calls_by new.pass.number new.pass.known ≡ calls_by old.pass.number old.pass.known)
     (same_value : value new.function ≡ value old.function) (turn : new.turn ≡ old.turn) (lacks : new.lacks ≡ old.lacks) where
-  given : given_at crew.counter.n new ≡ h.claims ++ piece.addition ∷ []
-  given = ap (λ (s : SeatState). gave crew.counter.n s.worker.claims) seat ∙ h.last
+  given : given_at parts.counter.n new ≡ h.claims ++ piece.addition ∷ []
+  given = ap (λ (s : SeatState). gave parts.counter.n s.worker.claims) seat ∙ h.last
 
-  seated : IsSeated value crew new
+  seated : IsSeated value parts new
   seated =
-      seated_on value called crew old new h.seated
+      seated_on value called parts old new h.seated
       (record {
         of = ap (λ (s : SeatState). s.of) seat;
         badge = ap (λ (b : BadgeState). b.of) badge;
         number = ap (λ (s : SeatState). s.worker.number) seat;
-        given = ap (λ (s : SeatState). gave crew.counter.n s.worker.claims) seat;
+        given = ap (λ (s : SeatState). gave parts.counter.n s.worker.claims) seat;
         on = on;
         same_value = same_value;
         turn = turn;
       })
 
-  own_more_called : (later : List ℕ) → called new.function ≡ called old.function ++ later → AreOwnCalls value called crew new
-  own_more_called later calls = own_on value called crew old new h.own own lacks (calls_more (called old.function) (called new.function) later calls)
+  own_more_called : (later : List ℕ) → called new.function ≡ called old.function ++ later → AreOwnCalls value called parts new
+  own_more_called later calls = own_on value called parts old new h.own own lacks (calls_more (called old.function) (called new.function) later calls)
 
   -- a front of the indexes was called
-  pub leaving : (at : ℕ) → (range_in crew piece).0 ≤ at → at ≤ (range_in crew piece).1 → called new.function ≡ called old.function ++ indexes_of ((range_in crew piece).0, at) → IsLeaving value called crew new piece
+  pub leaving : (at : ℕ) → (range_in parts piece).0 ≤ at → at ≤ (range_in parts piece).1 → called new.function ≡ called old.function ++ indexes_of ((range_in parts piece).0, at) → IsLeaving value called parts new piece
   leaving at low high calls = record {
     seated = seated;
-    own = own_more_called (indexes_of ((range_in crew piece).0, at)) calls;
-    part = subst (λ claims. AreWorkedOn crew.counter.n claims (piece.addition ∷ []) (called new.function)) (sym given)
-        (part_called crew.counter.n h.claims piece.addition (called old.function) (called new.function) h.worked at low high calls);
+    own = own_more_called (indexes_of ((range_in parts piece).0, at)) calls;
+    part = subst (λ claims. AreWorkedOn parts.counter.n claims (piece.addition ∷ []) (called new.function)) (sym given)
+        (part_called parts.counter.n h.claims piece.addition (called old.function) (called new.function) h.worked at low high calls);
     piece_is = h.piece_is;
   }
 
-  handed_more : (handed_in : Bool) → IsHandedIn (reporter crew) new.pass.known (range_in crew piece) handed_in → AreHandedIn crew.counter.n (reporter crew) (h.claims ++ piece.addition ∷ []) new.pass
+  handed_more : (handed_in : Bool) → IsHandedIn (reporter parts) new.pass.known (range_in parts piece) handed_in → AreHandedIn parts.counter.n (reporter parts) (h.claims ++ piece.addition ∷ []) new.pass
   handed_more true is =
-      elim (handed_on crew.counter.n (reporter crew) h.claims old.pass new.pass on h.handed) [
+      elim (handed_on parts.counter.n (reporter parts) h.claims old.pass new.pass on h.handed) [
         | inl reported ↦ elim is [
-          | inl there ↦ inl (All-push (λ claim. Contains (ranges_by (reporter crew) new.pass.known) (clipped crew.counter.n claim)) h.claims piece.addition reported there)
+          | inl there ↦ inl (All-push (λ claim. Contains (ranges_by (reporter parts) new.pass.known) (clipped parts.counter.n claim)) h.claims piece.addition reported there)
           | inr strange ↦ inr (inr strange)
         ]
         | inr other ↦ inr other
@@ -97,17 +97,17 @@ module _ {F : Type 0} (value : F → List ℕ → ItemValue) (called : F → Lis
   handed_more false is = inr (inl (knows_met new.pass is))
 
   -- all of them were, and what was kept was handed in
-  pub worked_on : (handed_in : Bool) → called new.function ≡ called old.function ++ indexes_of (range_in crew piece) → IsHandedIn (reporter crew) new.pass.known (range_in crew piece) handed_in
-      → IsDesk value called crew new
+  pub worked_on : (handed_in : Bool) → called new.function ≡ called old.function ++ indexes_of (range_in parts piece) → IsHandedIn (reporter parts) new.pass.known (range_in parts piece) handed_in
+      → IsDesk value called parts new
   worked_on handed_in calls is = record {
     seated = seated;
-    own = own_more_called (indexes_of (range_in crew piece)) calls;
+    own = own_more_called (indexes_of (range_in parts piece)) calls;
     left = [];
     one = omega arith;
-    left_are = All-nil (IsLeft crew.counter.n (reporter crew) new.pass);
-    worked = subst (λ claims. AreWorkedOn crew.counter.n claims [] (called new.function)) (sym given)
-        (whole_called crew.counter.n h.claims piece.addition (called old.function) (called new.function) h.worked (range_whole crew.counter.n piece.addition).0 calls);
-    handed = subst (λ claims. AreHandedIn crew.counter.n (reporter crew) claims new.pass) (sym given) (handed_more handed_in is);
+    left_are = All-nil (IsLeft parts.counter.n (reporter parts) new.pass);
+    worked = subst (λ claims. AreWorkedOn parts.counter.n claims [] (called new.function)) (sym given)
+        (whole_called parts.counter.n h.claims piece.addition (called old.function) (called new.function) h.worked (range_whole parts.counter.n piece.addition).0 calls);
+    handed = subst (λ claims. AreHandedIn parts.counter.n (reporter parts) claims new.pass) (sym given) (handed_more handed_in is);
   }
 
 -- ---- what becomes of the piece
@@ -123,11 +123,11 @@ last_called calls calls' low index is less =
     inside : (index low : ℕ) → low ≤ index → covers index (low, low + (index + 1 - low)) ≡ 1
     inside index low less = grind (arith, nat_tests)
 
-module _ {F : Type 0} (value : F → List ℕ → ItemValue) (called : F → List ℕ) (crew : Crew F) (old mid new : DeskState F) (range : ℕ × ℕ) (on : GoesOn old.pass mid.pass) where
+module _ {F : Type 0} (value : F → List ℕ → ItemValue) (called : F → List ℕ) (parts : EngineParts F) (old mid new : DeskState F) (range : ℕ × ℕ) (on : GoesOn old.pass mid.pass) where
   -- memory was wanted
-  pub wants_told : (turn : Turn) → HasGivenUp mid new turn → (at : ℕ) → range.0 ≤ at → at ≤ range.1 → called mid.function ≡ called old.function ++ indexes_of (range.0, at) → IsWorked value called crew old new range turn
+  pub wants_told : (turn : Turn) → HasGivenUp mid new turn → (at : ℕ) → range.0 ≤ at → at ≤ range.1 → called mid.function ≡ called old.function ++ indexes_of (range.0, at) → IsWorked value called parts old new range turn
   wants_told turn gave at low high calls =
-      subst (IsWorked value called crew old new range) (sym gave.turn_is)
+      subst (IsWorked value called parts old new range) (sym gave.turn_is)
       (record {
         at = at;
         front = (low, high);
@@ -137,9 +137,9 @@ module _ {F : Type 0} (value : F → List ℕ → ItemValue) (called : F → Lis
       })
 
   -- the future was told to fail, or memory was wanted
-  pub fails_told : (turn : Turn) (index : ℕ) → FailsOrWants mid new index (item_at (work_of value crew) index) turn → range.0 ≤ index → index < range.1 → first_bad (work_of value crew) range ≡ Some index
-      → called mid.function ≡ called old.function ++ indexes_of (range.0, index + 1) → IsWorked value called crew old new range turn
+  pub fails_told : (turn : Turn) (index : ℕ) → FailsOrWants mid new index (item_at (work_of value parts) index) turn → range.0 ≤ index → index < range.1 → first_bad (work_of value parts) range ≡ Some index
+      → called mid.function ≡ called old.function ++ indexes_of (range.0, index + 1) → IsWorked value called parts old new range turn
   fails_told turn index (inl failed) low high first calls =
-      subst (IsWorked value called crew old new range) (sym failed.turn_is)
-      (ap called failed.stays.function ∙ calls, first, made_since old.pass mid.pass new.pass (Fail index (item_at (work_of value crew) index)) on failed.fails, failed.met)
+      subst (IsWorked value called parts old new range) (sym failed.turn_is)
+      (ap called failed.stays.function ∙ calls, first, made_since old.pass mid.pass new.pass (Fail index (item_at (work_of value parts) index)) on failed.fails, failed.met)
   fails_told turn index (inr gave) low high first calls = wants_told turn gave (index + 1) (omega arith) (omega arith) calls

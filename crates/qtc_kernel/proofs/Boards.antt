@@ -26,7 +26,7 @@ use Rattle.qtc_shared.specs.Journals.{BeginsWith, calls_by, flags_at}
 use Rattle.qtc_shared.specs.Parts.{future_at}
 use Rattle.qtc_shared.specs.Passes.{IsHold, Meets, PassState, Stays}
 use Rattle.qtc_shared.proofs.Prefixes.{begins_further, saw_begins}
-use Rattle.qtc_kernel.specs.Crews.{Crew, IsBoard, IsCrew, IsLeft, IsOfPiece, KnowsEnd, is_report, is_strange, opening, ranges_by, reporter, shows_end, work_of}
+use Rattle.qtc_kernel.specs.EngineParts.{EngineParts, IsBoard, FitTogether, IsLeft, IsOfPiece, KnowsEnd, is_report, is_strange, opening, ranges_by, reporter, shows_end, work_of}
 use Rattle.qtc_kernel.specs.Runs.{IsBlock, range_of}
 use Rattle.qtc_kernel.specs.Working.{IsHandedIn, IsPieceOf, is_drop, range_in}
 use Rattle.qtc_kernel.specs.Workload.{Workload, first_bad, size_of, texts_in}
@@ -94,12 +94,12 @@ comes future caller batch some within =
 
 -- ---- the board goes on
 
-module _ {F : Type 0} (value : F → List ℕ → ItemValue) (crew : Crew F) where
+module _ {F : Type 0} (value : F → List ℕ → ItemValue) (parts : EngineParts F) where
   n : ℕ
-  n = crew.counter.n
+  n = parts.counter.n
 
   -- the journal is met, and no call of the board's own comes to it
-  pub board_met : (tally : TallyState) (pass pass' : PassState (List ℕ)) (journal : Journal) → IsBoard value crew tally pass → Meets pass journal → pass'.known ≡ journal → pass' ≡ record pass { known = pass'.known; seen = [] } → IsBoard value crew tally pass'
+  pub board_met : (tally : TallyState) (pass pass' : PassState (List ℕ)) (journal : Journal) → IsBoard value parts tally pass → Meets pass journal → pass'.known ≡ journal → pass' ≡ record pass { known = pass'.known; seen = [] } → IsBoard value parts tally pass'
   board_met tally pass pass' journal board met known is =
       let number : pass'.number ≡ pass.number = ap (λ (p : PassState (List ℕ)). p.number) is in
       let own : calls_by pass'.number pass'.known ≡ calls_by pass.number pass.known = ap (λ k. calls_by k pass'.known) number ∙ ap (calls_by pass.number) known ∙ met.own in
@@ -109,43 +109,43 @@ module _ {F : Type 0} (value : F → List ℕ → ItemValue) (crew : Crew F) whe
         number = number ∙ board.number;
         childless = ap (λ (p : PassState (List ℕ)). p.children) is ∙ board.childless;
         opened = begins_further opening pass.known pass'.known board.opened (subst (λ k. BeginsWith k pass.known) (sym known) (saw_begins pass.known journal pass.seen met.saw));
-        reports = subst (All (IsOfPiece (work_of value crew) crew.counter.n crew.sizes tally.pieces)) (sym own) board.reports;
+        reports = subst (All (IsOfPiece (work_of value parts) parts.counter.n parts.sizes tally.pieces)) (sym own) board.reports;
       }
 
-  pub board_stays : (tally : TallyState) (pass pass' : PassState (List ℕ)) → IsBoard value crew tally pass → IsHold pass pass' Stays → IsBoard value crew tally pass'
+  pub board_stays : (tally : TallyState) (pass pass' : PassState (List ℕ)) → IsBoard value parts tally pass → IsHold pass pass' Stays → IsBoard value parts tally pass'
   board_stays tally pass pass' board hold = board_met tally pass pass' hold.journal board hold.met (ap (λ (f : Future (List ℕ)). f.calls) hold.done) hold.pass
 
   -- more pieces are gathered
-  of_pieces_more : (pieces more : List Addition) (logged : Logged (List ℕ)) → IsOfPiece (work_of value crew) crew.counter.n crew.sizes pieces logged → IsOfPiece (work_of value crew) crew.counter.n crew.sizes (pieces ++ more) logged
+  of_pieces_more : (pieces more : List Addition) (logged : Logged (List ℕ)) → IsOfPiece (work_of value parts) parts.counter.n parts.sizes pieces logged → IsOfPiece (work_of value parts) parts.counter.n parts.sizes (pieces ++ more) logged
   of_pieces_more pieces more logged is = record {
     batch = is.batch;
     reports = is.reports;
     texts = is.texts;
     good = is.good;
     block = is.block;
-    gathered = subst (λ ranges. Contains ranges (range_of is.batch)) (sym (map-append (clipped crew.counter.n) pieces more)) (Contains-append_left (map (clipped crew.counter.n) pieces) (map (clipped crew.counter.n) more) (range_of is.batch) is.gathered);
+    gathered = subst (λ ranges. Contains ranges (range_of is.batch)) (sym (map-append (clipped parts.counter.n) pieces more)) (Contains-append_left (map (clipped parts.counter.n) pieces) (map (clipped parts.counter.n) more) (range_of is.batch) is.gathered);
   }
 
-  pub board_takes : (tally tally' : TallyState) (pass : PassState (List ℕ)) (more : List Addition) → IsBoard value crew tally pass → tally'.of ≡ tally.of → tally'.pieces ≡ tally.pieces ++ more → IsBoard value crew tally' pass
+  pub board_takes : (tally tally' : TallyState) (pass : PassState (List ℕ)) (more : List Addition) → IsBoard value parts tally pass → tally'.of ≡ tally.of → tally'.pieces ≡ tally.pieces ++ more → IsBoard value parts tally' pass
   board_takes tally tally' pass more board of pieces = record {
     counter = of ∙ board.counter;
     future = board.future;
     number = board.number;
     childless = board.childless;
     opened = board.opened;
-    reports = subst (λ (all : List Addition). All (IsOfPiece (work_of value crew) crew.counter.n crew.sizes all) (calls_by pass.number pass.known)) (sym pieces)
-        (All-weaker (IsOfPiece (work_of value crew) crew.counter.n crew.sizes tally.pieces) (IsOfPiece (work_of value crew) crew.counter.n crew.sizes (tally.pieces ++ more)) (of_pieces_more tally.pieces more) (calls_by pass.number pass.known) board.reports);
+    reports = subst (λ (all : List Addition). All (IsOfPiece (work_of value parts) parts.counter.n parts.sizes all) (calls_by pass.number pass.known)) (sym pieces)
+        (All-weaker (IsOfPiece (work_of value parts) parts.counter.n parts.sizes tally.pieces) (IsOfPiece (work_of value parts) parts.counter.n parts.sizes (tally.pieces ++ more)) (of_pieces_more tally.pieces more) (calls_by pass.number pass.known) board.reports);
   }
 
-  pub board_gathers : (tally tally' : TallyState) (pass : PassState (List ℕ)) (piece : Addition) → IsBoard value crew tally pass → tally' ≡ record tally { pieces = tally.pieces ++ piece ∷ [] } → IsBoard value crew tally' pass
+  pub board_gathers : (tally tally' : TallyState) (pass : PassState (List ℕ)) (piece : Addition) → IsBoard value parts tally pass → tally' ≡ record tally { pieces = tally.pieces ++ piece ∷ [] } → IsBoard value parts tally' pass
   board_gathers tally tally' pass piece board is = board_takes tally tally' pass (piece ∷ []) board (ap (λ (t : TallyState). t.of) is) (ap (λ (t : TallyState). t.pieces) is)
 
   -- the ranges of its reports are those of gathered pieces
-  pub reports_gathered : (pieces : List Addition) (calls : Journal) → All (IsOfPiece (work_of value crew) crew.counter.n crew.sizes pieces) calls → All (Contains (map (clipped crew.counter.n) pieces)) (map range_of (reports_of calls))
-  reports_gathered pieces [] all = All-nil (Contains (map (clipped crew.counter.n) pieces))
+  pub reports_gathered : (pieces : List Addition) (calls : Journal) → All (IsOfPiece (work_of value parts) parts.counter.n parts.sizes pieces) calls → All (Contains (map (clipped parts.counter.n) pieces)) (map range_of (reports_of calls))
+  reports_gathered pieces [] all = All-nil (Contains (map (clipped parts.counter.n) pieces))
   reports_gathered pieces (logged ∷ calls) all =
-      let P = IsOfPiece (work_of value crew) crew.counter.n crew.sizes pieces in
-      let Q = Contains (map (clipped crew.counter.n) pieces) in
+      let P = IsOfPiece (work_of value parts) parts.counter.n parts.sizes pieces in
+      let Q = Contains (map (clipped parts.counter.n) pieces) in
       let first = All-head P logged calls all in
       let rest = reports_gathered pieces calls (All-tail P logged calls all) in
       subst (λ batches. All Q (map range_of (batches ++ reports_of calls))) (sym first.reports) (All-cons Q (range_of first.batch) (map range_of (reports_of calls)) first.gathered rest)
@@ -168,19 +168,19 @@ not_both counter tally tally' piece tally_is gathered index low high covered =
     inside index begin end low high = grind (arith, nat_tests)
 
 -- no report of a gathered piece covers a piece that is gathered next
-pub left_gathered : {F : Type 0} (value : F → List ℕ → ItemValue) (crew : Crew F) (tally tally' : TallyState) (pass own : PassState (List ℕ)) (piece : Addition) → IsBoard value crew tally pass → own.known ≡ pass.known → KnowsEnd own
-    → tally' ≡ record tally { pieces = tally.pieces ++ piece ∷ [] } → IsGathered crew.counter tally' → IsLeft crew.counter.n (reporter crew) own piece
-left_gathered value crew tally tally' pass own piece board known ended tally_is gathered = record {
+pub left_gathered : {F : Type 0} (value : F → List ℕ → ItemValue) (parts : EngineParts F) (tally tally' : TallyState) (pass own : PassState (List ℕ)) (piece : Addition) → IsBoard value parts tally pass → own.known ≡ pass.known → KnowsEnd own
+    → tally' ≡ record tally { pieces = tally.pieces ++ piece ∷ [] } → IsGathered parts.counter tally' → IsLeft parts.counter.n (reporter parts) own piece
+left_gathered value parts tally tally' pass own piece board known ended tally_is gathered = record {
   ended = ended;
   uncovered = λ index low high.
-      ap (λ k. times_covered (ranges_by (reporter crew) k) index) known ∙ ap (λ number. times_covered (ranges_by number pass.known) index) (sym board.number)
+      ap (λ k. times_covered (ranges_by (reporter parts) k) index) known ∙ ap (λ number. times_covered (ranges_by number pass.known) index) (sym board.number)
       ∙ none index low high (dec_lt 0 (times_covered (ranges_by pass.number pass.known) index));
 }
   where
-    none : (index : ℕ) → (clipped crew.counter.n piece).0 ≤ index → index < (clipped crew.counter.n piece).1 → Dec (0 < times_covered (ranges_by pass.number pass.known) index) → times_covered (ranges_by pass.number pass.known) index ≡ 0
+    none : (index : ℕ) → (clipped parts.counter.n piece).0 ≤ index → index < (clipped parts.counter.n piece).1 → Dec (0 < times_covered (ranges_by pass.number pass.known) index) → times_covered (ranges_by pass.number pass.known) index ≡ 0
     none index low high (yes more) =
-        absurd (not_both crew.counter tally tally' piece tally_is gathered index low high
-        (among_cover index (ranges_by pass.number pass.known) (map (clipped crew.counter.n) tally.pieces) (reports_gathered value crew tally.pieces (calls_by pass.number pass.known) board.reports) more))
+        absurd (not_both parts.counter tally tally' piece tally_is gathered index low high
+        (among_cover index (ranges_by pass.number pass.known) (map (clipped parts.counter.n) tally.pieces) (reports_gathered value parts tally.pieces (calls_by pass.number pass.known) board.reports) more))
     none index low high (no few) = omega arith
 
 -- ---- what was handed in
@@ -198,10 +198,10 @@ handed_ok number first later range (Err e) begins handed = tt
 
 -- ---- a report
 
-module _ {F : Type 0} (value : F → List ℕ → ItemValue) (crew : Crew F) (fits : IsCrew value crew) (piece : Addition) (below : piece.begin < crew.counter.n) (some : 1 ≤ piece.size) (listed : Contains crew.sizes piece.size)
-    (range : ℕ × ℕ) (range_is : range ≡ clipped crew.counter.n piece) (good : first_bad (work_of value crew) range ≡ None) where
+module _ {F : Type 0} (value : F → List ℕ → ItemValue) (parts : EngineParts F) (fits : FitTogether value parts) (piece : Addition) (below : piece.begin < parts.counter.n) (some : 1 ≤ piece.size) (listed : Contains parts.sizes piece.size)
+    (range : ℕ × ℕ) (range_is : range ≡ clipped parts.counter.n piece) (good : first_bad (work_of value parts) range ≡ None) where
   abbrev work : Workload
-  work = work_of value crew
+  work = work_of value parts
 
   bounds : (begin size m : ℕ) (r : ℕ × ℕ) → r ≡ (min begin m, min (begin + size) m) → begin < m → 1 ≤ size → (r.0 < r.1) × (r.1 ≤ m)
   bounds begin size m r is less one =
@@ -210,16 +210,16 @@ module _ {F : Type 0} (value : F → List ℕ → ItemValue) (crew : Crew F) (fi
       (omega arith, omega arith)
 
   pub part : IsPart (size_of work) range
-  part = let both = bounds piece.begin piece.size crew.counter.n range range_is below some in record { some = both.0; within = let is = fits.indexes in let high = both.1 in omega arith }
+  part = let both = bounds piece.begin piece.size parts.counter.n range range_is below some in record { some = both.0; within = let is = fits.indexes in let high = both.1 in omega arith }
 
-  block : IsBlock crew.counter.n crew.sizes range
+  block : IsBlock parts.counter.n parts.sizes range
   block = record {
     size = piece.size;
     listed = listed;
     length_is =
-        let first : range.0 ≡ min piece.begin crew.counter.n = ap (λ (x : ℕ × ℕ). x.0) range_is in
-        let last : range.1 ≡ min (piece.begin + piece.size) crew.counter.n = ap (λ (x : ℕ × ℕ). x.1) range_is in
-        elim (cases_lt crew.counter.n (piece.begin + piece.size)) [
+        let first : range.0 ≡ min piece.begin parts.counter.n = ap (λ (x : ℕ × ℕ). x.0) range_is in
+        let last : range.1 ≡ min (piece.begin + piece.size) parts.counter.n = ap (λ (x : ℕ × ℕ). x.1) range_is in
+        elim (cases_lt parts.counter.n (piece.begin + piece.size)) [
           | inl short ↦ inr (omega arith, omega arith)
           | inr whole ↦ inl (omega arith)
         ];
@@ -228,10 +228,10 @@ module _ {F : Type 0} (value : F → List ℕ → ItemValue) (crew : Crew F) (fi
   pub values_few : length (texts_in work range) ≤ range.1 - range.0
   values_few = let p = part in let some = p.some in texts-most work range.0 range.1 (omega arith) p.within
 
-  pub values_whole : crew.future.terms.filter ≡ false → length (texts_in work range) ≡ range.1 - range.0
+  pub values_whole : parts.future.terms.filter ≡ false → length (texts_in work range) ≡ range.1 - range.0
   values_whole plain = let p = part in let some = p.some in texts-whole work range.0 range.1 (omega arith) p.within (fits.suits plain) good
 
-  module _ (tally tally' : TallyState) (pass pass' : PassState (List ℕ)) (journal : Journal) (board : IsBoard value crew tally pass) (tally_is : tally' ≡ record tally { pieces = tally.pieces ++ piece ∷ [] }) (gathered : IsGathered crew.counter tally')
+  module _ (tally tally' : TallyState) (pass pass' : PassState (List ℕ)) (journal : Journal) (board : IsBoard value parts tally pass) (tally_is : tally' ≡ record tally { pieces = tally.pieces ++ piece ∷ [] }) (gathered : IsGathered parts.counter tally')
       (met : Meets pass journal) (pass_is : pass' ≡ record pass { known = pass'.known; seen = [] }) where
     abbrev future : Future (List ℕ)
     future = future_at pass.of.terms journal
@@ -243,35 +243,35 @@ module _ {F : Type 0} (value : F → List ℕ → ItemValue) (crew : Crew F) (fi
     logged = reported future pass.number batch
 
     batch_is : range_of batch ≡ range
-    batch_is = batch_range work crew.future.terms.filter range part
+    batch_is = batch_range work parts.future.terms.filter range part
 
     pieces_are : tally'.pieces ≡ tally.pieces ++ piece ∷ []
     pieces_are = ap (λ (t : TallyState). t.pieces) tally_is
 
-    ranges_are : map (clipped crew.counter.n) tally'.pieces ≡ map (clipped crew.counter.n) tally.pieces ++ clipped crew.counter.n piece ∷ []
-    ranges_are = ap (map (clipped crew.counter.n)) pieces_are ∙ map-append (clipped crew.counter.n) tally.pieces (piece ∷ [])
+    ranges_are : map (clipped parts.counter.n) tally'.pieces ≡ map (clipped parts.counter.n) tally.pieces ++ clipped parts.counter.n piece ∷ []
+    ranges_are = ap (map (clipped parts.counter.n)) pieces_are ∙ map-append (clipped parts.counter.n) tally.pieces (piece ∷ [])
 
-    logged_is : IsOfPiece work crew.counter.n crew.sizes tally'.pieces logged
+    logged_is : IsOfPiece work parts.counter.n parts.sizes tally'.pieces logged
     logged_is = record {
       batch = batch;
       reports = refl;
       texts = ap (texts_in work) (sym batch_is);
       good = ap (first_bad work) batch_is ∙ good;
-      block = subst (IsBlock crew.counter.n crew.sizes) (sym batch_is) block;
+      block = subst (IsBlock parts.counter.n parts.sizes) (sym batch_is) block;
       gathered = subst (λ ranges. Contains ranges (range_of batch)) (sym ranges_are)
-          (subst (λ r. Contains (map (clipped crew.counter.n) tally.pieces ++ r ∷ []) (range_of batch)) (batch_is ∙ range_is) (Contains-push (map (clipped crew.counter.n) tally.pieces) (range_of batch)));
+          (subst (λ r. Contains (map (clipped parts.counter.n) tally.pieces ++ r ∷ []) (range_of batch)) (batch_is ∙ range_is) (Contains-push (map (clipped parts.counter.n) tally.pieces) (range_of batch)));
     }
 
     -- the board where the report was logged
-    board_logged : pass'.known ≡ journal ++ logged ∷ [] → IsBoard value crew tally' pass'
+    board_logged : pass'.known ≡ journal ++ logged ∷ [] → IsBoard value parts tally' pass'
     board_logged known =
-        let P = IsOfPiece work crew.counter.n crew.sizes tally'.pieces in
+        let P = IsOfPiece work parts.counter.n parts.sizes tally'.pieces in
         let number : pass'.number ≡ pass.number = ap (λ (p : PassState (List ℕ)). p.number) pass_is in
         let own : calls_by pass'.number pass'.known ≡ calls_by pass.number pass.known ++ logged ∷ [] =
         ap (λ k. calls_by k pass'.known) number ∙ ap (calls_by pass.number) known ∙ calls_by-append pass.number journal (logged ∷ [])
         ∙ ap (λ calls. calls_by pass.number journal ++ calls) (own_call pass.number logged refl) ∙ ap (λ calls. calls ++ logged ∷ []) met.own
         in
-        let before = board_gathers value crew tally tally' pass piece board tally_is in
+        let before = board_gathers value parts tally tally' pass piece board tally_is in
         record {
           counter = before.counter;
           future = ap (λ (p : PassState (List ℕ)). p.of) pass_is ∙ board.future;
@@ -287,9 +287,9 @@ module _ {F : Type 0} (value : F → List ℕ → ItemValue) (crew : Crew F) (fi
         subst (λ ranges. Contains ranges range) (sym (ap (ranges_by pass.number) known ∙ ranges_by-append pass.number journal (logged ∷ []) ∙ ap (λ r. ranges_by pass.number journal ++ r) one))
         (Contains-push (ranges_by pass.number journal) range)
 
-    in_both : (index : ℕ) → range.0 ≤ index → index < range.1 → 1 ≤ times_covered (map (clipped crew.counter.n) tally.pieces) index → ⊥
+    in_both : (index : ℕ) → range.0 ≤ index → index < range.1 → 1 ≤ times_covered (map (clipped parts.counter.n) tally.pieces) index → ⊥
     in_both index low high covered =
-        not_both crew.counter tally tally' piece tally_is gathered index (subst (λ (r : ℕ × ℕ). r.0 ≤ index) range_is low) (subst (λ (r : ℕ × ℕ). index < r.1) range_is high) covered
+        not_both parts.counter tally tally' piece tally_is gathered index (subst (λ (r : ℕ × ℕ). r.0 ≤ index) range_is low) (subst (λ (r : ℕ × ℕ). index < r.1) range_is high) covered
 
     -- an index of the piece can't be covered by a report of a gathered piece
     covered_strange : (index : ℕ) → least_covered (results_of future).batches batch.begin batch.total ≡ Some index → list_any (is_strange pass.number) journal ≡ true
@@ -306,16 +306,16 @@ module _ {F : Type 0} (value : F → List ℕ → ItemValue) (crew : Crew F) (fi
             let less = p.some in
             let reports : reports_of journal ≡ reports_of (calls_by pass.number pass.known) = none_strange pass.number journal none ∙ ap reports_of met.own in
             let covered : is_covered (reports_of (calls_by pass.number pass.known)) index ≡ true = ap (λ batches. is_covered batches index) (sym reports) ∙ sym (is_covered-in_order (reports_of journal) index) ∙ found.2 in
-            let among = reports_gathered value crew tally.pieces (calls_by pass.number pass.known) board.reports in
+            let among = reports_gathered value parts tally.pieces (calls_by pass.number pass.known) board.reports in
             let some_range : 1 ≤ times_covered (map range_of (reports_of (calls_by pass.number pass.known))) index = by (dec_lt 0 (times_covered (map range_of (reports_of (calls_by pass.number pass.known))) index)) covered in
-            in_both index found.0 (let high = found.1 in omega arith) (among_cover index (map range_of (reports_of (calls_by pass.number pass.known))) (map (clipped crew.counter.n) tally.pieces) among some_range)
+            in_both index found.0 (let high = found.1 in omega arith) (among_cover index (map range_of (reports_of (calls_by pass.number pass.known))) (map (clipped parts.counter.n) tally.pieces) among some_range)
           where
             by : Dec (0 < times_covered (map range_of (reports_of (calls_by pass.number pass.known))) index) → is_covered (reports_of (calls_by pass.number pass.known)) index ≡ true → 1 ≤ times_covered (map range_of (reports_of (calls_by pass.number pass.known))) index
             by (yes more) covered = more
             by (no none) covered = absurd (false≢true (sym (none_covers (reports_of (calls_by pass.number pass.known)) index (omega arith)) ∙ covered))
 
     pub board_reports : (reply : Reply) → IsStep (offered future pass.number batch) (future_at pass.of.terms pass'.known) (told_by reply)
-        → IsBoard value crew tally' pass' × IsHandedIn (reporter crew) pass'.known range (not (is_drop (told_by reply)))
+        → IsBoard value parts tally' pass' × IsHandedIn (reporter parts) pass'.known range (not (is_drop (told_by reply)))
     board_reports reply done =
         let p = part in
         let some_left = p.some in
@@ -325,12 +325,12 @@ module _ {F : Type 0} (value : F → List ℕ → ItemValue) (crew : Crew F) (fi
         elim (comes future pass.number batch (omega arith) (omega arith)) [
           | is_over ended same drop ↦
               let known : pass'.known ≡ journal = ap (λ (f : Future (List ℕ)). f.calls) (done.future ∙ same) in (
-                board_gathers value crew tally tally' pass' piece (board_met value crew tally pass pass' journal board met known pass_is) tally_is,
+                board_gathers value parts tally tally' pass' piece (board_met value parts tally pass pass' journal board met known pass_is) tally_is,
                 told true (ap is_drop done.answer ∙ drop) (ap (λ k. shows_end (flags_at k)) known ∙ ended),
               )
           | is_taken index e same drop ↦
               let known : pass'.known ≡ journal = ap (λ (f : Future (List ℕ)). f.calls) (done.future ∙ same) in (
-                board_gathers value crew tally tally' pass' piece (board_met value crew tally pass pass' journal board met known pass_is) tally_is,
+                board_gathers value parts tally tally' pass' piece (board_met value parts tally pass pass' journal board met known pass_is) tally_is,
                 told false (ap is_drop done.answer ∙ drop) (inr (subst (λ k. list_any (is_strange k) pass'.known ≡ true) board.number (ap (list_any (is_strange pass.number)) known ∙ covered_strange index e))),
               )
           | is_logged new drop ↦
@@ -340,8 +340,8 @@ module _ {F : Type 0} (value : F → List ℕ → ItemValue) (crew : Crew F) (fi
               )
         ]
       where
-        told : (drop : Bool) → is_drop (told_by reply) ≡ drop → IsHandedIn (reporter crew) pass'.known range (not drop) → IsHandedIn (reporter crew) pass'.known range (not (is_drop (told_by reply)))
-        told drop e handed = subst (λ b. IsHandedIn (reporter crew) pass'.known range (not b)) (sym e) handed
+        told : (drop : Bool) → is_drop (told_by reply) ≡ drop → IsHandedIn (reporter parts) pass'.known range (not drop) → IsHandedIn (reporter parts) pass'.known range (not (is_drop (told_by reply)))
+        told drop e handed = subst (λ b. IsHandedIn (reporter parts) pass'.known range (not b)) (sym e) handed
 
 -- ---- as the code has it
 
@@ -357,31 +357,31 @@ batch_is_in job range begin end values bounds values_are =
     let last : end ≡ range.1 = ap (λ (r : ℕ × ℕ). r.1) bounds in
     λ i. batch_with (first i) (values_are i) (last i - first i)
 
-module _ {F : Type 0} (value : F → List ℕ → ItemValue) (crew : Crew F) (fits : IsCrew value crew) (piece : PieceState) (is : IsPieceOf crew piece) (begin end : ℕ) (values : List (List ℕ)) (bounds : (begin, end) ≡ clipped piece.of.n piece.addition)
-    (values_are : values ≡ texts_in (work_of value crew) (range_in crew piece)) (good : first_bad (work_of value crew) (range_in crew piece) ≡ None) where
-  bounds_are : (begin, end) ≡ range_in crew piece
+module _ {F : Type 0} (value : F → List ℕ → ItemValue) (parts : EngineParts F) (fits : FitTogether value parts) (piece : PieceState) (is : IsPieceOf parts piece) (begin end : ℕ) (values : List (List ℕ)) (bounds : (begin, end) ≡ clipped piece.of.n piece.addition)
+    (values_are : values ≡ texts_in (work_of value parts) (range_in parts piece)) (good : first_bad (work_of value parts) (range_in parts piece) ≡ None) where
+  bounds_are : (begin, end) ≡ range_in parts piece
   bounds_are = bounds ∙ ap (λ (c : CounterId). clipped c.n piece.addition) is.of
 
   pub code_few : length values ≤ end - begin
   code_few =
-      let few = values_few value crew fits piece.addition is.below is.some is.listed (range_in crew piece) refl good in
-      let first : begin ≡ (range_in crew piece).0 = ap (λ (r : ℕ × ℕ). r.0) bounds_are in
-      let last : end ≡ (range_in crew piece).1 = ap (λ (r : ℕ × ℕ). r.1) bounds_are in
-      let long : length values ≡ length (texts_in (work_of value crew) (range_in crew piece)) = ap length values_are in
+      let few = values_few value parts fits piece.addition is.below is.some is.listed (range_in parts piece) refl good in
+      let first : begin ≡ (range_in parts piece).0 = ap (λ (r : ℕ × ℕ). r.0) bounds_are in
+      let last : end ≡ (range_in parts piece).1 = ap (λ (r : ℕ × ℕ). r.1) bounds_are in
+      let long : length values ≡ length (texts_in (work_of value parts) (range_in parts piece)) = ap length values_are in
       omega (arith, few, first, last, long)
 
-  pub code_whole : crew.future.terms.filter ≡ false → length values ≡ end - begin
+  pub code_whole : parts.future.terms.filter ≡ false → length values ≡ end - begin
   code_whole plain =
-      let whole = values_whole value crew fits piece.addition is.below is.some is.listed (range_in crew piece) refl good plain in
-      let first : begin ≡ (range_in crew piece).0 = ap (λ (r : ℕ × ℕ). r.0) bounds_are in
-      let last : end ≡ (range_in crew piece).1 = ap (λ (r : ℕ × ℕ). r.1) bounds_are in
-      let long : length values ≡ length (texts_in (work_of value crew) (range_in crew piece)) = ap length values_are in
+      let whole = values_whole value parts fits piece.addition is.below is.some is.listed (range_in parts piece) refl good plain in
+      let first : begin ≡ (range_in parts piece).0 = ap (λ (r : ℕ × ℕ). r.0) bounds_are in
+      let last : end ≡ (range_in parts piece).1 = ap (λ (r : ℕ × ℕ). r.1) bounds_are in
+      let long : length values ≡ length (texts_in (work_of value parts) (range_in parts piece)) = ap length values_are in
       omega (arith, whole, first, last, long)
 
-  pub code_reports : (tally tally' : TallyState) (pass pass' : PassState (List ℕ)) (journal : Journal) → IsBoard value crew tally pass → tally' ≡ record tally { pieces = tally.pieces ++ piece.addition ∷ [] } → IsGathered crew.counter tally'
+  pub code_reports : (tally tally' : TallyState) (pass pass' : PassState (List ℕ)) (journal : Journal) → IsBoard value parts tally pass → tally' ≡ record tally { pieces = tally.pieces ++ piece.addition ∷ [] } → IsGathered parts.counter tally'
       → Meets pass journal → pass' ≡ record pass { known = pass'.known; seen = [] } → (reply : Reply)
       → IsStep (step (future_at pass.of.terms journal) pass.number (ReportBatch begin values (end - begin))) (future_at pass.of.terms pass'.known) (told_by reply)
-      → IsBoard value crew tally' pass' × IsHandedIn (reporter crew) pass'.known (range_in crew piece) (not (is_drop (told_by reply)))
+      → IsBoard value parts tally' pass' × IsHandedIn (reporter parts) pass'.known (range_in parts piece) (not (is_drop (told_by reply)))
   code_reports tally tally' pass pass' journal board tally_is gathered met pass_is reply done =
-      board_reports value crew fits piece.addition is.below is.some is.listed (range_in crew piece) refl good tally tally' pass pass' journal board tally_is gathered met pass_is reply
-      (subst (λ batch. IsStep (offered (future_at pass.of.terms journal) pass.number batch) (future_at pass.of.terms pass'.known) (told_by reply)) (batch_is_in (work_of value crew) (range_in crew piece) begin end values bounds_are values_are) done)
+      board_reports value parts fits piece.addition is.below is.some is.listed (range_in parts piece) refl good tally tally' pass pass' journal board tally_is gathered met pass_is reply
+      (subst (λ batch. IsStep (offered (future_at pass.of.terms journal) pass.number batch) (future_at pass.of.terms pass'.known) (told_by reply)) (batch_is_in (work_of value parts) (range_in parts piece) begin end values bounds_are values_are) done)

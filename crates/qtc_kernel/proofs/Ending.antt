@@ -27,7 +27,7 @@ use Rattle.qtc_future.specs.declared.replies.Failure.{Failure}
 use Rattle.qtc_future.proofs.Staying.{legal_store}
 use Rattle.qtc_shared.specs.Journals.{IsAllowed, IsJournal, calls_by, flags_at, is_makers}
 use Rattle.qtc_shared.specs.Parts.{Terms, future_at}
-use Rattle.qtc_kernel.specs.Crews.{IsFailedCall, IsOfPiece, IsOwnCall, is_own, ranges_by}
+use Rattle.qtc_kernel.specs.EngineParts.{IsFailedCall, IsOfPiece, IsOwnCall, is_own, ranges_by}
 use Rattle.qtc_kernel.specs.BroughtIn.{AreBroughtIn, DesksAreWorkedOut, IsUncovered}
 use Rattle.qtc_kernel.specs.Gathering.{AreOfPieces, NoneIsMissing, gathered_ranges}
 use Rattle.qtc_kernel.specs.Laws.{AreCalledOnce, IsFailing}

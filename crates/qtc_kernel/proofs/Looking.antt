@@ -7,7 +7,7 @@ use Rattle.std.proofs.lemmas.List.Folds.{list_any-append}
 use Rattle.qtc_events.specs.Flags.{Standing}
 use Rattle.qtc_shared.specs.Journals.{flags_at}
 use Rattle.qtc_shared.specs.Passes.{IsLook, IsResumed, IsWatch, PassState}
-use Rattle.qtc_kernel.specs.Crews.{HasMetEnd, shows_end}
+use Rattle.qtc_kernel.specs.EngineParts.{HasMetEnd, shows_end}
 use Rattle.qtc_kernel.specs.Turns.{LooksEnded, LooksFree}
 use Rattle.qtc_kernel.specs.Working.{is_waiting}
 

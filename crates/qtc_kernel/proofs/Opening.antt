@@ -20,7 +20,7 @@ use Rattle.qtc_shared.specs.Journals.{BeginsWith, calls_by}
 use Rattle.qtc_shared.specs.Parts.{Terms}
 use Rattle.qtc_shared.specs.Passes.{FutureId, IsShared, PassState, pass_at}
 use Rattle.qtc_shared.proofs.Prefixes.{begins_same}
-use Rattle.qtc_kernel.specs.Crews.{Crew, DeskState, IsBoard, IsCrew, IsDesk, IsEngineOf, IsLeft, IsNewDesk, IsOfPiece, IsOpened, IsOwnCall, IsPlanned, crew_with, desks_with, opening, plan_terms, ranges_by, reporter, value_by, work_of}
+use Rattle.qtc_kernel.specs.EngineParts.{EngineParts, DeskState, IsBoard, FitTogether, IsDesk, IsEngineOf, IsLeft, IsNewDesk, IsOfPiece, IsOpened, IsOwnCall, IsPlanned, parts_with, desks_with, opening, plan_terms, ranges_by, reporter, value_by, work_of}
 use Rattle.qtc_kernel.specs.Driving.{is_filter, own_entry}
 use Rattle.qtc_kernel.specs.Workload.{Suits}
 use Rattle.qtc_kernel.specs.declared.kinds.Kind.{Kind}
@@ -98,11 +98,11 @@ module _ (kind : Kind) (cancel_after suspend_after workers : ℕ) (core : Future
 
 -- ---- the board
 
-module _ {F : Type 0} (value : F → List ℕ → ItemValue) (called : F → List ℕ) (crew : Crew F) where
+module _ {F : Type 0} (value : F → List ℕ → ItemValue) (called : F → List ℕ) (parts : EngineParts F) where
   none_own : (k : ℕ) → 1 ≤ k → calls_by k opening ≡ []
   none_own k some = let is : (0 == k) ≡ false = grind (arith, nat_tests) in rw is refl
 
-  pub board_opens : (tally : TallyState) (pass : PassState (List ℕ)) → 1 ≤ crew.counter.workers → tally ≡ record { of = crew.counter; pieces = []; workers = [] } → pass ≡ pass_at crew.future (reporter crew) opening → IsBoard value crew tally pass
+  pub board_opens : (tally : TallyState) (pass : PassState (List ℕ)) → 1 ≤ parts.counter.workers → tally ≡ record { of = parts.counter; pieces = []; workers = [] } → pass ≡ pass_at parts.future (reporter parts) opening → IsBoard value parts tally pass
   board_opens tally pass some tally_is pass_is = record {
     counter = ap (λ (t : TallyState). t.of) tally_is;
     future = ap (λ (p : PassState (List ℕ)). p.of) pass_is;
@@ -110,26 +110,26 @@ module _ {F : Type 0} (value : F → List ℕ → ItemValue) (called : F → Lis
     childless = ap (λ (p : PassState (List ℕ)). p.children) pass_is;
     opened = subst (λ k. BeginsWith k opening) (sym (ap (λ (p : PassState (List ℕ)). p.known) pass_is)) (begins_same opening);
     reports =
-        let none : calls_by pass.number pass.known ≡ [] = ap (λ (p : PassState (List ℕ)). calls_by p.number p.known) pass_is ∙ none_own (reporter crew) some in
-        subst (All (IsOfPiece (work_of value crew) crew.counter.n crew.sizes tally.pieces)) (sym none) (All-nil (IsOfPiece (work_of value crew) crew.counter.n crew.sizes tally.pieces));
+        let none : calls_by pass.number pass.known ≡ [] = ap (λ (p : PassState (List ℕ)). calls_by p.number p.known) pass_is ∙ none_own (reporter parts) some in
+        subst (All (IsOfPiece (work_of value parts) parts.counter.n parts.sizes tally.pieces)) (sym none) (All-nil (IsOfPiece (work_of value parts) parts.counter.n parts.sizes tally.pieces));
   }
 
   -- ---- desks
 
   abbrev seat_at : ℕ → SeatState
-  seat_at number = record { of = crew.counter; worker = new_worker number }
+  seat_at number = record { of = parts.counter; worker = new_worker number }
 
   abbrev desk_at : ℕ → F → DeskState F
   desk_at number function = record {
     seat = seat_at number;
-    pass = pass_at crew.future number opening;
-    badge = new_badge crew.active;
+    pass = pass_at parts.future number opening;
+    badge = new_badge parts.active;
     function = function;
     turn = 0;
     lacks = false;
   }
 
-  new_desk : (number : ℕ) (function : F) → 1 ≤ length crew.sizes → number < crew.counter.workers → value function ≡ value_by value crew.functions → called function ≡ [] → IsDesk value called crew (desk_at number function)
+  new_desk : (number : ℕ) (function : F) → 1 ≤ length parts.sizes → number < parts.counter.workers → value function ≡ value_by value parts.functions → called function ≡ [] → IsDesk value called parts (desk_at number function)
   new_desk number function some below alike fresh = record {
     seated = record {
       counter = refl;
@@ -144,21 +144,21 @@ module _ {F : Type 0} (value : F → List ℕ → ItemValue) (called : F → Lis
       sizes = refl;
     };
     own =
-        let P = IsOwnCall (work_of value crew) false (called function) in
+        let P = IsOwnCall (work_of value parts) false (called function) in
         All-filter (λ (logged : Logged (List ℕ)). logged.entry.caller == number) P opening (All-cons P (record { entry = own_entry Start; values = []; item = [] }) [] start_own (All-nil P));
     left = [];
     one = omega arith;
-    left_are = All-nil (IsLeft crew.counter.n (reporter crew) (pass_at crew.future number opening));
+    left_are = All-nil (IsLeft parts.counter.n (reporter parts) (pass_at parts.future number opening));
     worked = record {
       whole = [];
       parts = refl;
       least = λ index. omega arith;
       most = λ index. let none : called function ≡ [] = fresh in subst (λ calls. times_called calls index ≤ 0) (sym none) (omega arith);
     };
-    handed = inl (All-nil (λ claim. Contains (ranges_by (reporter crew) opening) (clipped crew.counter.n claim)));
+    handed = inl (All-nil (λ claim. Contains (ranges_by (reporter parts) opening) (clipped parts.counter.n claim)));
   }
     where
-      start_own : IsOwnCall (work_of value crew) false (called function) (record { entry = own_entry Start; values = []; item = [] })
+      start_own : IsOwnCall (work_of value parts) false (called function) (record { entry = own_entry Start; values = []; item = [] })
       start_own = record { own = refl; fails = λ index e. absurd (not_fail index e); cancels = λ e. absurd (not_cancel e) }
         where
           not_fail : (index : ℕ) → Start ≡ Fail index → ⊥
@@ -170,31 +170,31 @@ module _ {F : Type 0} (value : F → List ℕ → ItemValue) (called : F → Lis
   -- as many desks as functions, each new
   pub record AreFresh (k : ℕ) (desks : List (DeskState F)) (count : ℕ) : Type 0 where
     pub count_is : length desks ≡ count
-    pub each : All (IsDesk value called crew) desks
-    pub fresh : (i : ℕ) → i < count → IfSome (slice_get desks i) (IsNewDesk crew (k + i))
+    pub each : All (IsDesk value called parts) desks
+    pub fresh : (i : ℕ) → i < count → IfSome (slice_get desks i) (IsNewDesk parts (k + i))
 
-  pub desks_fresh : (k : ℕ) (seats : List SeatState) (passes : List (PassState (List ℕ))) (badges : List BadgeState) (functions : List F) → 1 ≤ length crew.sizes → length seats ≡ length functions → length passes ≡ length functions → length badges ≡ length functions
-      → k + length functions ≤ crew.counter.workers
-      → ((i : ℕ) → i < length functions → slice_get seats i ≡ Some (seat_at (k + i))) → ((i : ℕ) → i < length functions → slice_get passes i ≡ Some (pass_at crew.future (k + i) opening))
-      → All (λ function. value function ≡ value_by value crew.functions) functions → All (λ function. called function ≡ []) functions
-      → ((i : ℕ) → i < length functions → slice_get crew.functions (k + i) ≡ slice_get functions i) → All (λ badge. badge ≡ new_badge crew.active) badges
+  pub desks_fresh : (k : ℕ) (seats : List SeatState) (passes : List (PassState (List ℕ))) (badges : List BadgeState) (functions : List F) → 1 ≤ length parts.sizes → length seats ≡ length functions → length passes ≡ length functions → length badges ≡ length functions
+      → k + length functions ≤ parts.counter.workers
+      → ((i : ℕ) → i < length functions → slice_get seats i ≡ Some (seat_at (k + i))) → ((i : ℕ) → i < length functions → slice_get passes i ≡ Some (pass_at parts.future (k + i) opening))
+      → All (λ function. value function ≡ value_by value parts.functions) functions → All (λ function. called function ≡ []) functions
+      → ((i : ℕ) → i < length functions → slice_get parts.functions (k + i) ≡ slice_get functions i) → All (λ badge. badge ≡ new_badge parts.active) badges
       → AreFresh k (desks_with seats passes badges functions) (length functions)
-  desks_fresh k [] passes badges [] some seats_long passes_long badges_long few seats_are passes_are alike fresh there out = record { count_is = refl; each = All-nil (IsDesk value called crew); fresh = λ i within. absurd (omega arith) }
+  desks_fresh k [] passes badges [] some seats_long passes_long badges_long few seats_are passes_are alike fresh there out = record { count_is = refl; each = All-nil (IsDesk value called parts); fresh = λ i within. absurd (omega arith) }
   desks_fresh k [] passes badges (function ∷ functions) some seats_long passes_long badges_long few seats_are passes_are alike fresh there out = absurd (omega arith)
   desks_fresh k (seat ∷ seats) passes badges [] some seats_long passes_long badges_long few seats_are passes_are alike fresh there out = absurd (omega arith)
   desks_fresh k (seat ∷ seats) [] badges (function ∷ functions) some seats_long passes_long badges_long few seats_are passes_are alike fresh there out = absurd (omega arith)
   desks_fresh k (seat ∷ seats) (pass ∷ passes) [] (function ∷ functions) some seats_long passes_long badges_long few seats_are passes_are alike fresh there out = absurd (omega arith)
   desks_fresh k (seat ∷ seats) (pass ∷ passes) (badge ∷ badges) (function ∷ functions) some seats_long passes_long badges_long few seats_are passes_are alike fresh there out =
-      let P : F → Type 0 = λ function. value function ≡ value_by value crew.functions in
+      let P : F → Type 0 = λ function. value function ≡ value_by value parts.functions in
       let Q : F → Type 0 = λ function. called function ≡ [] in
       let seat_is : seat ≡ seat_at k = same_some seat (seat_at k) (seats_are 0 (omega arith) ∙ ap (λ j. Some (seat_at j)) (omega arith)) in
-      let pass_is : pass ≡ pass_at crew.future k opening = same_some pass (pass_at crew.future k opening) (passes_are 0 (omega arith) ∙ ap (λ j. Some (pass_at crew.future j opening)) (omega arith)) in
-      let B : BadgeState → Type 0 = λ badge. badge ≡ new_badge crew.active in
+      let pass_is : pass ≡ pass_at parts.future k opening = same_some pass (pass_at parts.future k opening) (passes_are 0 (omega arith) ∙ ap (λ j. Some (pass_at parts.future j opening)) (omega arith)) in
+      let B : BadgeState → Type 0 = λ badge. badge ≡ new_badge parts.active in
       let badge_is = All-head B badge badges out in
       let rest = desks_fresh (k + 1) seats passes badges functions some (omega arith) (omega arith) (omega arith) (omega arith)
-      (λ i within. seats_are (suc i) (omega arith) ∙ ap (λ j. Some (seat_at j)) (omega arith)) (λ i within. passes_are (suc i) (omega arith) ∙ ap (λ j. Some (pass_at crew.future j opening)) (omega arith))
+      (λ i within. seats_are (suc i) (omega arith) ∙ ap (λ j. Some (seat_at j)) (omega arith)) (λ i within. passes_are (suc i) (omega arith) ∙ ap (λ j. Some (pass_at parts.future j opening)) (omega arith))
       (All-tail P function functions alike) (All-tail Q function functions fresh)
-      (λ i within. ap (slice_get crew.functions) (omega arith) ∙ there (suc i) (omega arith)) (All-tail B badge badges out) in
+      (λ i within. ap (slice_get parts.functions) (omega arith) ∙ there (suc i) (omega arith)) (All-tail B badge badges out) in
       let first = new_desk k function some (omega arith) (All-head P function functions alike) (All-head Q function functions fresh) in
       let is : desks_with (seat ∷ seats) (pass ∷ passes) (badge ∷ badges) (function ∷ functions) ≡ desk_at k function ∷ desks_with seats passes badges functions =
       λ i. record { seat = seat_is i; pass = pass_is i; badge = badge_is i; function = function; turn = 0; lacks = false } ∷ desks_with seats passes badges functions
@@ -202,14 +202,14 @@ module _ {F : Type 0} (value : F → List ℕ → ItemValue) (called : F → Lis
       let count = rest.count_is in
       record {
         count_is = omega arith;
-        each = subst (All (IsDesk value called crew)) (sym is) (All-cons (IsDesk value called crew) (desk_at k function) (desks_with seats passes badges functions) first rest.each);
-        fresh = λ i within. subst (λ (desks : List (DeskState F)). IfSome (slice_get desks i) (IsNewDesk crew (k + i))) (sym is) (at i (omega arith) rest.fresh);
+        each = subst (All (IsDesk value called parts)) (sym is) (All-cons (IsDesk value called parts) (desk_at k function) (desks_with seats passes badges functions) first rest.each);
+        fresh = λ i within. subst (λ (desks : List (DeskState F)). IfSome (slice_get desks i) (IsNewDesk parts (k + i))) (sym is) (at i (omega arith) rest.fresh);
       }
     where
-      at : (i : ℕ) → i < length functions + 1 → ((j : ℕ) → j < length functions → IfSome (slice_get (desks_with seats passes badges functions) j) (IsNewDesk crew (k + 1 + j)))
-          → IfSome (slice_get (desk_at k function ∷ desks_with seats passes badges functions) i) (IsNewDesk crew (k + i))
-      at zero within others = subst (λ j. IsNewDesk crew j (desk_at k function)) (omega arith) (record { seat = refl; pass = refl; function = ap (slice_get crew.functions) (omega arith) ∙ there 0 (omega arith); badge = refl; lacks = refl })
-      at (suc i) within others = subst (λ j. IfSome (slice_get (desks_with seats passes badges functions) i) (IsNewDesk crew j)) (omega arith) (others i (omega arith))
+      at : (i : ℕ) → i < length functions + 1 → ((j : ℕ) → j < length functions → IfSome (slice_get (desks_with seats passes badges functions) j) (IsNewDesk parts (k + 1 + j)))
+          → IfSome (slice_get (desk_at k function ∷ desks_with seats passes badges functions) i) (IsNewDesk parts (k + i))
+      at zero within others = subst (λ j. IsNewDesk parts j (desk_at k function)) (omega arith) (record { seat = refl; pass = refl; function = ap (slice_get parts.functions) (omega arith) ∙ there 0 (omega arith); badge = refl; lacks = refl })
+      at (suc i) within others = subst (λ j. IfSome (slice_get (desks_with seats passes badges functions) i) (IsNewDesk parts j)) (omega arith) (others i (omega arith))
 
 -- ---- the engine
 
@@ -217,10 +217,10 @@ module _ {F : Type 0} (value : F → List ℕ → ItemValue) (called : F → Lis
     (future : FutureId) (passes : List (PassState (List ℕ))) (reporting caller : PassState (List ℕ)) (opened : IsOpened (plan_terms kind cancel_after suspend_after workers) workers future passes reporting caller)
     (counter : CounterId) (seats : List SeatState) (tally : TallyState) (new : IsNew (length items) workers counter seats tally)
     (active : CountId) (badges : List BadgeState) (counted : IsNewCount workers active badges) where
-  abbrev made : Crew F
-  made = crew_with counter future active items functions sizes
+  abbrev made : EngineParts F
+  made = parts_with counter future active items functions sizes
 
-  pub made_fits : IsCrew value made
+  pub made_fits : FitTogether value made
   made_fits = record {
     indexes = new.indexes;
     limits = subst (λ n. IsWithinLimits n counter.workers) (sym new.indexes) (subst (IsWithinLimits (length items)) (sym new.for_workers) planned.limits);
@@ -245,8 +245,8 @@ module _ {F : Type 0} (value : F → List ℕ → ItemValue) (called : F → Lis
       (λ i within. opened.each i (omega arith) ∙ ap (λ j. Some (pass_at future j opening)) (omega arith))
       planned.alike planned.fresh (λ i within. ap (slice_get functions) (omega arith)) counted.all_out
 
-  pub made_engine : (crew : Crew F) (desks : List (DeskState F)) → crew ≡ made → desks ≡ desks_with seats passes badges functions → IsEngineOf value called items (plan_terms kind cancel_after suspend_after workers) sizes functions crew desks caller
-  made_engine crew desks crew_is desks_are =
+  pub made_engine : (parts : EngineParts F) (desks : List (DeskState F)) → parts ≡ made → desks ≡ desks_with seats passes badges functions → IsEngineOf value called items (plan_terms kind cancel_after suspend_after workers) sizes functions parts desks caller
+  made_engine parts desks parts_are desks_are =
       let is : IsEngineOf value called items (plan_terms kind cancel_after suspend_after workers) sizes functions made (desks_with seats passes badges functions) caller = record {
         items_are = refl;
         functions_are = refl;
@@ -257,5 +257,5 @@ module _ {F : Type 0} (value : F → List ℕ → ItemValue) (called : F → Lis
         fresh = λ number within. let count = fresh.count_is in subst (λ j. IfSome (slice_get (desks_with seats passes badges functions) number) (IsNewDesk made j)) (omega arith) (fresh.fresh number (omega arith));
         pass_is = opened.caller_is ∙ ap (λ k. pass_at future (k + 1) opening) (sym new.for_workers);
       } in
-      subst (λ (c : Crew F). IsEngineOf value called items (plan_terms kind cancel_after suspend_after workers) sizes functions c desks caller) (sym crew_is)
+      subst (λ (c : EngineParts F). IsEngineOf value called items (plan_terms kind cancel_after suspend_after workers) sizes functions c desks caller) (sym parts_are)
       (subst (λ (ds : List (DeskState F)). IsEngineOf value called items (plan_terms kind cancel_after suspend_after workers) sizes functions made ds caller) (sym desks_are) is)

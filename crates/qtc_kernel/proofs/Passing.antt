@@ -28,7 +28,7 @@ use Rattle.qtc_shared.specs.Journals.{BeginsWith, IsJournal, Saw, calls_by, flag
 use Rattle.qtc_shared.specs.Parts.{Terms, future_at}
 use Rattle.qtc_shared.specs.Passes.{IsHold, IsLook, IsWatch, Meets, PassState, Stays}
 use Rattle.qtc_shared.proofs.Prefixes.{begins_further, begins_same, saw_begins}
-use Rattle.qtc_kernel.specs.Crews.{AreHandedIn, HasMetEnd, IsLeft, KnowsEnd, is_report, is_strange, ranges_by, shows_end}
+use Rattle.qtc_kernel.specs.EngineParts.{AreHandedIn, HasMetEnd, IsLeft, KnowsEnd, is_report, is_strange, ranges_by, shows_end}
 use Rattle.qtc_kernel.specs.Runs.{range_of}
 use Rattle.qtc_kernel.specs.Turns.{GoesOn, HasMade}
 use Rattle.qtc_kernel.specs.Working.{HasLooked}

@@ -27,7 +27,7 @@ use Rattle.qtc_shared.specs.Parts.{Terms, future_at}
 use Rattle.qtc_shared.specs.Laws.{KnownIsKept}
 use Rattle.qtc_shared.specs.Passes.{FutureId, IsHold, Makes, Meets, PassState, Stays}
 use Rattle.qtc_shared.proofs.Prefixes.{begins_further, begins_same, saw_begins}
-use Rattle.qtc_kernel.specs.Crews.{AreReported, Crew, DeskState, HasMetEnd, IsCrew, IsDesk, IsLeft, IsOfPiece, IsOwnCall, given_at, is_own, is_report, is_strange, opening, ranges_by, reporter, shows_end, work_of}
+use Rattle.qtc_kernel.specs.EngineParts.{AreReported, EngineParts, DeskState, HasMetEnd, FitTogether, IsDesk, IsLeft, IsOfPiece, IsOwnCall, given_at, is_own, is_report, is_strange, opening, ranges_by, reporter, shows_end, work_of}
 use Rattle.qtc_kernel.specs.BroughtIn.{AreBroughtIn, IsUncovered}
 use Rattle.qtc_kernel.specs.Endings.{AreGathered, AreSettled, IsMet, functions_at, with_seat, workers_at}
 use Rattle.qtc_kernel.specs.Gathering.{IsClaimed}
@@ -172,22 +172,22 @@ times_gave n index (claim ∷ claims) =
       | false ↦ omega arith
     ]
 
-module _ {F : Type 0} (value : F → List ℕ → ItemValue) (called : F → List ℕ) (crew : Crew F) where
-  given_claims : (desk : DeskState F) (desks : List (DeskState F)) → gave crew.counter.n (claims_of (workers_at (desk ∷ desks))) ≡ given_at crew.counter.n desk ++ gave crew.counter.n (claims_of (workers_at desks))
-  given_claims desk desks = filter-append (λ (addition : Addition). nat_lt addition.begin crew.counter.n) desk.seat.worker.claims (claims_of (workers_at desks))
+module _ {F : Type 0} (value : F → List ℕ → ItemValue) (called : F → List ℕ) (parts : EngineParts F) where
+  given_claims : (desk : DeskState F) (desks : List (DeskState F)) → gave parts.counter.n (claims_of (workers_at (desk ∷ desks))) ≡ given_at parts.counter.n desk ++ gave parts.counter.n (claims_of (workers_at desks))
+  given_claims desk desks = filter-append (λ (addition : Addition). nat_lt addition.begin parts.counter.n) desk.seat.worker.claims (claims_of (workers_at desks))
 
   -- the calls of their functions
   abbrev pub calls_at : List (DeskState F) → List ℕ
   calls_at desks = calls_of called (functions_at desks)
 
-  most : (index : ℕ) (desks : List (DeskState F)) → All (IsDesk value called crew) desks → times_called (calls_at desks) index ≤ times_covered (map (clipped crew.counter.n) (claims_of (workers_at desks))) index
+  most : (index : ℕ) (desks : List (DeskState F)) → All (IsDesk value called parts) desks → times_called (calls_at desks) index ≤ times_covered (map (clipped parts.counter.n) (claims_of (workers_at desks))) index
   most index [] all = omega arith
   most index (desk ∷ desks) all =
-      let rest = most index desks (All-tail (IsDesk value called crew) desk desks all) in
-      let own = (All-head (IsDesk value called crew) desk desks all).worked.most index in
-      let some = times_gave crew.counter.n index desk.seat.worker.claims in
+      let rest = most index desks (All-tail (IsDesk value called parts) desk desks all) in
+      let own = (All-head (IsDesk value called parts) desk desks all).worked.most index in
+      let some = times_gave parts.counter.n index desk.seat.worker.claims in
       let calls = calls-append index (called desk.function) (calls_at desks) in
-      let claims = times_both crew.counter.n index desk.seat.worker.claims (claims_of (workers_at desks)) in
+      let claims = times_both parts.counter.n index desk.seat.worker.claims (claims_of (workers_at desks)) in
       omega arith
 
   -- each of them called no more than all
@@ -213,32 +213,32 @@ module _ {F : Type 0} (value : F → List ℕ → ItemValue) (called : F → Lis
 
   -- what it knows and what it met is in the journal, with its own calls
   record IsIn (calls : List ℕ) (journal : Journal) (desk : DeskState F) : Type 0 where
-    desk_is : IsDesk value called crew desk
-    own : All (IsOwnCall (work_of value crew) false calls) (calls_by desk.seat.worker.number journal)
+    desk_is : IsDesk value called parts desk
+    own : All (IsOwnCall (work_of value parts) false calls) (calls_by desk.seat.worker.number journal)
     begins : BeginsWith journal desk.pass.known
     ends : HasMetEnd desk.pass → shows_end (flags_at journal) ≡ true
 
   -- a desk that wanted no memory, and whose calls are among these
   record IsSettling (calls : List ℕ) (desk : DeskState F) : Type 0 where
-    desk_is : IsDesk value called crew desk
+    desk_is : IsDesk value called parts desk
     lacks : desk.lacks ≡ false
     more : (index : ℕ) → times_called (called desk.function) index ≤ times_called calls index
 
-  are_settling : (calls : List ℕ) (desks : List (DeskState F)) → All (IsDesk value called crew) desks → All (λ desk. desk.lacks ≡ false) desks → All (λ desk. (index : ℕ) → times_called (called desk.function) index ≤ times_called calls index) desks
+  are_settling : (calls : List ℕ) (desks : List (DeskState F)) → All (IsDesk value called parts) desks → All (λ desk. desk.lacks ≡ false) desks → All (λ desk. (index : ℕ) → times_called (called desk.function) index ≤ times_called calls index) desks
       → All (IsSettling calls) desks
   are_settling calls [] are lacks more = All-nil (IsSettling calls)
   are_settling calls (desk ∷ desks) are lacks more =
       let Lacks : DeskState F → Type 0 = λ d. d.lacks ≡ false in
       let More : DeskState F → Type 0 = λ d. (index : ℕ) → times_called (called d.function) index ≤ times_called calls index in
-      All-cons (IsSettling calls) desk desks (record { desk_is = All-head (IsDesk value called crew) desk desks are; lacks = All-head Lacks desk desks lacks; more = All-head More desk desks more })
-      (are_settling calls desks (All-tail (IsDesk value called crew) desk desks are) (All-tail Lacks desk desks lacks) (All-tail More desk desks more))
+      All-cons (IsSettling calls) desk desks (record { desk_is = All-head (IsDesk value called parts) desk desks are; lacks = All-head Lacks desk desks lacks; more = All-head More desk desks more })
+      (are_settling calls desks (All-tail (IsDesk value called parts) desk desks are) (All-tail Lacks desk desks lacks) (All-tail More desk desks more))
 
-  own_met : (calls : List ℕ) (desk : DeskState F) (journal : Journal) → IsSettling calls desk → Meets desk.pass journal → All (IsOwnCall (work_of value crew) false calls) (calls_by desk.seat.worker.number journal)
+  own_met : (calls : List ℕ) (desk : DeskState F) (journal : Journal) → IsSettling calls desk → Meets desk.pass journal → All (IsOwnCall (work_of value parts) false calls) (calls_by desk.seat.worker.number journal)
   own_met calls desk journal is met =
-      subst (λ k. All (IsOwnCall (work_of value crew) false calls) (calls_by k journal)) is.desk_is.seated.numbered
-      (subst (All (IsOwnCall (work_of value crew) false calls)) (sym met.own)
-      (All-weaker (IsOwnCall (work_of value crew) desk.lacks (called desk.function)) (IsOwnCall (work_of value crew) false calls)
-      (λ logged. own_more (work_of value crew) desk.lacks false (called desk.function) calls logged (λ wants. sym is.lacks ∙ wants) is.more) (calls_by desk.pass.number desk.pass.known) is.desk_is.own))
+      subst (λ k. All (IsOwnCall (work_of value parts) false calls) (calls_by k journal)) is.desk_is.seated.numbered
+      (subst (All (IsOwnCall (work_of value parts) false calls)) (sym met.own)
+      (All-weaker (IsOwnCall (work_of value parts) desk.lacks (called desk.function)) (IsOwnCall (work_of value parts) false calls)
+      (λ logged. own_more (work_of value parts) desk.lacks false (called desk.function) calls logged (λ wants. sym is.lacks ∙ wants) is.more) (calls_by desk.pass.number desk.pass.known) is.desk_is.own))
 
   first_in : (calls : List ℕ) (desk : DeskState F) (journal : Journal) → IsSettling calls desk → Meets desk.pass journal → IsIn calls journal desk
   first_in calls desk journal is met = record {
@@ -252,7 +252,7 @@ module _ {F : Type 0} (value : F → List ℕ → ItemValue) (called : F → Lis
   other_in calls desk first journal known is met grew later begins =
       let before : BeginsWith journal desk.pass.known = begins_further desk.pass.known first journal met.known grew in
       let number = desk.seat.worker.number in
-      let P = IsOwnCall (work_of value crew) false calls in
+      let P = IsOwnCall (work_of value parts) false calls in
       record {
         desk_is = is.desk_is;
         own = all_left P (calls_by number journal) (calls_by number begins.later)
@@ -271,10 +271,10 @@ module _ {F : Type 0} (value : F → List ℕ → ItemValue) (called : F → Lis
       (others_in calls desks first journal known (All-tail (IsSettling calls) desk desks are) (All-tail (IsMet first) desk desks met) grew (All-tail Later desk desks later) begins)
 
   -- whoever has a number among them made just its own calls
-  own_all : (calls : List ℕ) (journal : Journal) (number : ℕ) (desks : List (DeskState F)) → All (IsIn calls journal) desks → 1 ≤ times_numbered number (workers_at desks) → All (IsOwnCall (work_of value crew) false calls) (calls_by number journal)
+  own_all : (calls : List ℕ) (journal : Journal) (number : ℕ) (desks : List (DeskState F)) → All (IsIn calls journal) desks → 1 ≤ times_numbered number (workers_at desks) → All (IsOwnCall (work_of value parts) false calls) (calls_by number journal)
   own_all calls journal number [] all some = absurd (omega arith)
   own_all calls journal number (desk ∷ desks) all some =
-      let P = IsOwnCall (work_of value crew) false calls in
+      let P = IsOwnCall (work_of value parts) false calls in
       elim (desk.seat.worker.number == number) as (λ b. (desk.seat.worker.number == number) ≡ b → All P (calls_by number journal)) [
         | true ↦ λ e. subst (λ k. All P (calls_by k journal)) (equal desk.seat.worker.number number e) (All-head (IsIn calls journal) desk desks all).own
         | false ↦ λ e.
@@ -290,24 +290,24 @@ module _ {F : Type 0} (value : F → List ℕ → ItemValue) (called : F → Lis
   -- what they left, of which no report covers an index
   record AreLeft (journal : Journal) (desks : List (DeskState F)) : Type 0 where
     left : List Addition
-    uncovered : All (IsUncovered crew.counter.n journal) left
-    least : (index : ℕ) → times_covered (map (clipped crew.counter.n) (gave crew.counter.n (claims_of (workers_at desks)))) index
-        ≤ times_called (calls_at desks) index + times_covered (map (clipped crew.counter.n) left) index
+    uncovered : All (IsUncovered parts.counter.n journal) left
+    least : (index : ℕ) → times_covered (map (clipped parts.counter.n) (gave parts.counter.n (claims_of (workers_at desks)))) index
+        ≤ times_called (calls_at desks) index + times_covered (map (clipped parts.counter.n) left) index
 
-  are_left : (terms : Terms) (calls : List ℕ) (journal : Journal) (desks : List (DeskState F)) → IsJournal terms journal → reports_of journal ≡ reports_of (calls_by (reporter crew) journal) → All (IsIn calls journal) desks → AreLeft journal desks
-  are_left terms calls journal [] lawful plain all = record { left = []; uncovered = All-nil (IsUncovered crew.counter.n journal); least = λ index. omega arith }
+  are_left : (terms : Terms) (calls : List ℕ) (journal : Journal) (desks : List (DeskState F)) → IsJournal terms journal → reports_of journal ≡ reports_of (calls_by (reporter parts) journal) → All (IsIn calls journal) desks → AreLeft journal desks
+  are_left terms calls journal [] lawful plain all = record { left = []; uncovered = All-nil (IsUncovered parts.counter.n journal); least = λ index. omega arith }
   are_left terms calls journal (desk ∷ desks) lawful plain all =
-      let n = crew.counter.n in
+      let n = parts.counter.n in
       let is = All-head (IsIn calls journal) desk desks all in
       let others = are_left terms calls journal desks lawful plain (All-tail (IsIn calls journal) desk desks all) in
       let own = is.desk_is.left in
       record {
         left = own ++ others.left;
         uncovered = All-append (IsUncovered n journal) own others.left
-            (All-weaker (IsLeft n (reporter crew) desk.pass) (IsUncovered n journal)
+            (All-weaker (IsLeft n (reporter parts) desk.pass) (IsUncovered n journal)
             (λ claim left index low high.
             ap (λ batches. times_covered (map range_of batches) index) plain
-            ∙ ap (λ ranges. times_covered ranges index) (reports_rest terms desk.pass.known journal is.begins lawful left.ended (reporter crew))
+            ∙ ap (λ ranges. times_covered ranges index) (reports_rest terms desk.pass.known journal is.begins lawful left.ended (reporter parts))
             ∙ left.uncovered index low high) own is.desk_is.left_are)
             others.uncovered;
         least = λ index.
@@ -326,24 +326,24 @@ module _ {F : Type 0} (value : F → List ℕ → ItemValue) (called : F → Lis
       }
 
   -- where nothing was canceled, each claim was reported
-  all_reported : (calls : List ℕ) (journal : Journal) (desks : List (DeskState F)) → All (IsIn calls journal) desks → (shows_end (flags_at journal) ≡ true → ⊥) → list_any (is_strange (reporter crew)) journal ≡ false
-      → AreReported crew.counter.n (reporter crew) (gave crew.counter.n (claims_of (workers_at desks))) journal
-  all_reported calls journal [] all going none = All-nil (λ claim. Contains (ranges_by (reporter crew) journal) (clipped crew.counter.n claim))
+  all_reported : (calls : List ℕ) (journal : Journal) (desks : List (DeskState F)) → All (IsIn calls journal) desks → (shows_end (flags_at journal) ≡ true → ⊥) → list_any (is_strange (reporter parts)) journal ≡ false
+      → AreReported parts.counter.n (reporter parts) (gave parts.counter.n (claims_of (workers_at desks))) journal
+  all_reported calls journal [] all going none = All-nil (λ claim. Contains (ranges_by (reporter parts) journal) (clipped parts.counter.n claim))
   all_reported calls journal (desk ∷ desks) all going none =
-      subst (λ claims. AreReported crew.counter.n (reporter crew) claims journal) (sym (given_claims desk desks))
-      (All-append Reported (given_at crew.counter.n desk) (gave crew.counter.n (claims_of (workers_at desks))) one (all_reported calls journal desks (All-tail (IsIn calls journal) desk desks all) going none))
+      subst (λ claims. AreReported parts.counter.n (reporter parts) claims journal) (sym (given_claims desk desks))
+      (All-append Reported (given_at parts.counter.n desk) (gave parts.counter.n (claims_of (workers_at desks))) one (all_reported calls journal desks (All-tail (IsIn calls journal) desk desks all) going none))
     where
       Reported : Addition → Type 0
-      Reported claim = Contains (ranges_by (reporter crew) journal) (clipped crew.counter.n claim)
+      Reported claim = Contains (ranges_by (reporter parts) journal) (clipped parts.counter.n claim)
 
       is : IsIn calls journal desk
       is = All-head (IsIn calls journal) desk desks all
 
-      one : All Reported (given_at crew.counter.n desk)
+      one : All Reported (given_at parts.counter.n desk)
       one = elim is.desk_is.handed [
-        | inl reported ↦ All-weaker (λ claim. Contains (ranges_by (reporter crew) desk.pass.known) (clipped crew.counter.n claim)) Reported (λ claim. contained_on (reporter crew) desk.pass.known journal (clipped crew.counter.n claim) is.begins) (given_at crew.counter.n desk) reported
+        | inl reported ↦ All-weaker (λ claim. Contains (ranges_by (reporter parts) desk.pass.known) (clipped parts.counter.n claim)) Reported (λ claim. contained_on (reporter parts) desk.pass.known journal (clipped parts.counter.n claim) is.begins) (given_at parts.counter.n desk) reported
         | inr (inl met) ↦ absurd (going (is.ends met))
-        | inr (inr strange) ↦ absurd (false≢true (sym none ∙ strange_on (reporter crew) desk.pass.known journal is.begins strange))
+        | inr (inr strange) ↦ absurd (false≢true (sym none ∙ strange_on (reporter parts) desk.pass.known journal is.begins strange))
       ]
 
 -- ---- functions that come back
@@ -382,15 +382,15 @@ module _ {F : Type 0} (first : DeskState F) (others : List (DeskState F)) (journ
 
 -- ---- all together
 
-module _ {F : Type 0} (value : F → List ℕ → ItemValue) (called : F → List ℕ) (crew : Crew F) (fits : IsCrew value crew) (first : DeskState F) (others : List (DeskState F)) (known : Journal) (s : AreSettled value crew first others known)
-    (count : length (first ∷ others) ≡ crew.counter.workers) (first_is : IsDesk value called crew first) (others_are : All (IsDesk value called crew) others) (met : All (IsMet first.pass.known) others)
-    (over : (crew.counter.n ≤ first.seat.worker.seen) ⊎ HasMetEnd first.pass) (no_lack : first.lacks ≡ false) (none_lack : All (λ desk. desk.lacks ≡ false) others)
-    (calls : List ℕ) (calls_are : (index : ℕ) → times_called calls index ≡ times_called (calls_at value called crew (first ∷ others)) index) where
+module _ {F : Type 0} (value : F → List ℕ → ItemValue) (called : F → List ℕ) (parts : EngineParts F) (fits : FitTogether value parts) (first : DeskState F) (others : List (DeskState F)) (known : Journal) (s : AreSettled value parts first others known)
+    (count : length (first ∷ others) ≡ parts.counter.workers) (first_is : IsDesk value called parts first) (others_are : All (IsDesk value called parts) others) (met : All (IsMet first.pass.known) others)
+    (over : (parts.counter.n ≤ first.seat.worker.seen) ⊎ HasMetEnd first.pass) (no_lack : first.lacks ≡ false) (none_lack : All (λ desk. desk.lacks ≡ false) others)
+    (calls : List ℕ) (calls_are : (index : ℕ) → times_called calls index ≡ times_called (calls_at value called parts (first ∷ others)) index) where
   abbrev work : Workload
-  work = work_of value crew
+  work = work_of value parts
 
   abbrev n : ℕ
-  n = crew.counter.n
+  n = parts.counter.n
 
   abbrev desks : List (DeskState F)
   desks = first ∷ others
@@ -398,7 +398,7 @@ module _ {F : Type 0} (value : F → List ℕ → ItemValue) (called : F → Lis
   abbrev terms : Terms
   terms = first.pass.of.terms
 
-  terms_are : terms ≡ crew.future.terms
+  terms_are : terms ≡ parts.future.terms
   terms_are = ap (λ (f : FutureId). f.terms) first_is.seated.future
 
   abbrev logged : Logged (List ℕ)
@@ -416,21 +416,21 @@ module _ {F : Type 0} (value : F → List ℕ → ItemValue) (called : F → Lis
     | inr more ↦ subst (λ k. BeginsWith k s.journal) (sym more) (begins_more s.journal (logged ∷ []))
   ]
 
-  are_desks : All (IsDesk value called crew) desks
-  are_desks = All-cons (IsDesk value called crew) first others first_is others_are
+  are_desks : All (IsDesk value called parts) desks
+  are_desks = All-cons (IsDesk value called parts) first others first_is others_are
 
-  are_in : All (IsIn value called crew calls s.journal) desks
+  are_in : All (IsIn value called parts calls s.journal) desks
   are_in =
-      let P = IsSettling value called crew calls in
+      let P = IsSettling value called parts calls in
       let Lacks : DeskState F → Type 0 = λ d. d.lacks ≡ false in
-      let all = are_settling value called crew calls desks are_desks (All-cons Lacks first others no_lack none_lack) (each_calls value called crew desks calls (λ index. let are = calls_are index in omega (arith, are))) in
-      let one = first_in value called crew calls first s.journal (All-head P first others all) s.met in
-      All-cons (IsIn value called crew calls s.journal) first others one
-      (others_in value called crew calls others first.pass.known s.journal known (All-tail P first others all) met one.begins s.others_met begins)
+      let all = are_settling value called parts calls desks are_desks (All-cons Lacks first others no_lack none_lack) (each_calls value called parts desks calls (λ index. let are = calls_are index in omega (arith, are))) in
+      let one = first_in value called parts calls first s.journal (All-head P first others all) s.met in
+      All-cons (IsIn value called parts calls s.journal) first others one
+      (others_in value called parts calls others first.pass.known s.journal known (All-tail P first others all) met one.begins s.others_met begins)
 
   -- ---- the tally
 
-  tally_of : s.tally.of ≡ crew.counter
+  tally_of : s.tally.of ≡ parts.counter
   tally_of = s.of ∙ s.board_is.counter
 
   count_at : (ds : List (DeskState F)) → length (workers_at ds) ≡ length ds
@@ -459,33 +459,33 @@ module _ {F : Type 0} (value : F → List ℕ → ItemValue) (called : F → Lis
 
   -- ---- whose calls they are
 
-  own : (number : ℕ) → number < crew.counter.workers → All (IsOwnCall work false calls) (calls_by number s.journal)
+  own : (number : ℕ) → number < parts.counter.workers → All (IsOwnCall work false calls) (calls_by number s.journal)
   own number below =
       let one : times_numbered number (workers_at desks) ≡ 1 =
       ap (times_numbered number) (sym workers_are) ∙ knows.numbers number (subst (λ (c : CounterId). number < c.workers) (sym tally_of) below)
       in
-      own_all value called crew calls s.journal number desks are_in (omega (arith, one))
+      own_all value called parts calls s.journal number desks are_in (omega (arith, one))
 
-  reports : All (IsOfPiece work n crew.sizes s.before.pieces) (calls_by (reporter crew) s.journal)
+  reports : All (IsOfPiece work n parts.sizes s.before.pieces) (calls_by (reporter parts) s.journal)
   reports =
-      let P = IsOfPiece work n crew.sizes s.before.pieces in
-      let at_known : All P (calls_by (reporter crew) known) =
-      subst (λ j. All P (calls_by (reporter crew) j)) s.board_knows (subst (λ k. All P (calls_by k s.board.known)) s.board_is.number s.board_is.reports)
+      let P = IsOfPiece work n parts.sizes s.before.pieces in
+      let at_known : All P (calls_by (reporter parts) known) =
+      subst (λ j. All P (calls_by (reporter parts) j)) s.board_knows (subst (λ k. All P (calls_by k s.board.known)) s.board_is.number s.board_is.reports)
       in
-      all_left P (calls_by (reporter crew) s.journal) (calls_by (reporter crew) begins.later)
-      (subst (All P) (ap (calls_by (reporter crew)) begins.is ∙ calls_by-append (reporter crew) s.journal begins.later) at_known)
+      all_left P (calls_by (reporter parts) s.journal) (calls_by (reporter parts) begins.later)
+      (subst (All P) (ap (calls_by (reporter parts)) begins.is ∙ calls_by-append (reporter parts) s.journal begins.later) at_known)
 
-  allowed : All (IsAllowed (crew.counter.workers + 1)) s.journal
+  allowed : All (IsAllowed (parts.counter.workers + 1)) s.journal
   allowed = subst (λ makers. All (IsAllowed makers) s.journal) (ap (λ (t : Terms). t.makers) terms_are ∙ fits.makers) s.met.lawful.allowed
 
-  ours : All (IsOurs work n crew.sizes s.before.pieces crew.counter.workers calls) s.journal
-  ours = all_ours work n crew.sizes s.before.pieces crew.counter.workers calls s.journal reports own
+  ours : All (IsOurs work n parts.sizes s.before.pieces parts.counter.workers calls) s.journal
+  ours = all_ours work n parts.sizes s.before.pieces parts.counter.workers calls s.journal reports own
 
   open_yet : (flags_at s.journal).finished ≡ false
-  open_yet = unfinished work n crew.sizes s.before.pieces crew.counter.workers calls s.journal ours allowed
+  open_yet = unfinished work n parts.sizes s.before.pieces parts.counter.workers calls s.journal ours allowed
 
-  none_strange : list_any (is_strange (reporter crew)) s.journal ≡ false
-  none_strange = none_is_strange work n crew.sizes s.before.pieces crew.counter.workers calls s.journal own allowed
+  none_strange : list_any (is_strange (reporter parts)) s.journal ≡ false
+  none_strange = none_is_strange work n parts.sizes s.before.pieces parts.counter.workers calls s.journal own allowed
 
   -- where nothing was canceled, no end stands
   going : (flags_at s.journal).canceled ≡ false → shows_end (flags_at s.journal) ≡ true → ⊥
@@ -506,22 +506,22 @@ module _ {F : Type 0} (value : F → List ℕ → ItemValue) (called : F → Lis
       subst (λ (c : CounterId). c.n ≤ first.seat.worker.seen) (sym tally_of)
           (elim over [
             | inl past ↦ past
-            | inr ended ↦ absurd (going not_canceled ((All-head (IsIn value called crew calls s.journal) first others are_in).ends ended))
+            | inr ended ↦ absurd (going not_canceled ((All-head (IsIn value called parts calls s.journal) first others are_in).ends ended))
           ]),
     );
   }
 
-  left : AreLeft value called crew s.journal desks
-  left = are_left value called crew terms calls s.journal desks s.met.lawful (none_strange_reports (reporter crew) s.journal none_strange) are_in
+  left : AreLeft value called parts s.journal desks
+  left = are_left value called parts terms calls s.journal desks s.met.lawful (none_strange_reports (reporter parts) s.journal none_strange) are_in
 
-  brought_in : AreBroughtIn work crew.sizes crew.future.terms s.journal s.tally calls
+  brought_in : AreBroughtIn work parts.sizes parts.future.terms s.journal s.tally calls
   brought_in = record {
     indexes = ap (λ (c : CounterId). c.n) tally_of ∙ fits.indexes;
     makers = fits.makers ∙ ap (λ (c : CounterId). c.workers + 1) (sym tally_of);
-    opened = begins_further opening first.pass.known s.journal first_is.seated.opened (All-head (IsIn value called crew calls s.journal) first others are_in).begins;
+    opened = begins_further opening first.pass.known s.journal first_is.seated.opened (All-head (IsIn value called parts calls s.journal) first others are_in).begins;
     own = λ number below. own number (subst (λ (c : CounterId). number < c.workers) tally_of below);
-    reports = subst (λ (c : CounterId). All (IsOfPiece work c.n crew.sizes s.tally.pieces) (calls_by c.workers s.journal)) (sym tally_of)
-        (subst (λ pieces. All (IsOfPiece work n crew.sizes pieces) (calls_by (reporter crew) s.journal)) (sym s.pieces) reports);
+    reports = subst (λ (c : CounterId). All (IsOfPiece work c.n parts.sizes s.tally.pieces) (calls_by c.workers s.journal)) (sym tally_of)
+        (subst (λ pieces. All (IsOfPiece work n parts.sizes pieces) (calls_by (reporter parts) s.journal)) (sym s.pieces) reports);
     gathered = subst (λ c. IsGathered c s.tally) (sym tally_of) s.gathered;
     knows = knows;
     all = has_all;
@@ -530,23 +530,23 @@ module _ {F : Type 0} (value : F → List ℕ → ItemValue) (called : F → Lis
     most = λ index.
         subst (λ (c : CounterId). times_called calls index ≤ times_covered (map (clipped c.n) (claims_of s.tally.workers)) index) (sym tally_of)
         (subst (λ ws. times_called calls index ≤ times_covered (map (clipped n) (claims_of ws)) index) (sym workers_are)
-        (subst (λ k. k ≤ times_covered (map (clipped n) (claims_of (workers_at desks))) index) (sym (calls_are index)) (most value called crew index desks are_desks)));
+        (subst (λ k. k ≤ times_covered (map (clipped n) (claims_of (workers_at desks))) index) (sym (calls_are index)) (most value called parts index desks are_desks)));
     least = λ index.
         subst (λ (c : CounterId). times_covered (map (clipped c.n) (gave c.n (claims_of s.tally.workers))) index ≤ times_called calls index + times_covered (map (clipped c.n) left.left) index) (sym tally_of)
         (subst (λ ws. times_covered (map (clipped n) (gave n (claims_of ws))) index ≤ times_called calls index + times_covered (map (clipped n) left.left) index) (sym workers_are)
         (subst (λ k. times_covered (map (clipped n) (gave n (claims_of (workers_at desks)))) index ≤ k + times_covered (map (clipped n) left.left) index) (sym (calls_are index)) (left.least index)));
     reported = λ not_canceled.
         subst (λ (c : CounterId). AreReported c.n c.workers (gave c.n (claims_of s.tally.workers)) s.journal) (sym tally_of)
-        (subst (λ ws. AreReported n (reporter crew) (gave n (claims_of ws)) s.journal) (sym workers_are)
-        (all_reported value called crew calls s.journal desks are_in (going not_canceled) none_strange));
+        (subst (λ ws. AreReported n (reporter parts) (gave n (claims_of ws)) s.journal) (sym workers_are)
+        (all_reported value called parts calls s.journal desks are_in (going not_canceled) none_strange));
     claimed = claimed;
   }
 
-  pub worked_out : IsWorkedOut work crew.sizes crew.future.terms known calls
+  pub worked_out : IsWorkedOut work parts.sizes parts.future.terms known calls
   worked_out = elim either [
     | inl same ↦ absurd (false≢true (sym open_yet ∙ same.1))
     | inr more ↦
-        subst (λ j. IsWorkedOut work crew.sizes crew.future.terms j calls) (sym more)
-        (desks_are_worked_out work crew.sizes crew.future.terms s.journal s.tally calls logged brought_in refl
+        subst (λ j. IsWorkedOut work parts.sizes parts.future.terms j calls) (sym more)
+        (desks_are_worked_out work parts.sizes parts.future.terms s.journal s.tally calls logged brought_in refl
         (subst (λ t. IsJournal t (s.journal ++ logged ∷ [])) terms_are (subst (IsJournal terms) more s.lawful)))
   ]

@@ -7,7 +7,7 @@ use Rattle.qtc_events.specs.declared.calls.Call.TheVariants.{Finish}
 use Rattle.qtc_future.specs.Future.{Logged, reports_of}
 use Rattle.qtc_shared.specs.Journals.{BeginsWith, IsJournal, calls_by, flags_at}
 use Rattle.qtc_shared.specs.Parts.{Terms}
-use Rattle.qtc_kernel.specs.Crews.{AreReported, IsOfPiece, IsOwnCall, opening}
+use Rattle.qtc_kernel.specs.EngineParts.{AreReported, IsOfPiece, IsOwnCall, opening}
 use Rattle.qtc_kernel.specs.Gathering.{IsClaimed}
 use Rattle.qtc_kernel.specs.Runs.{range_of, times_called}
 use Rattle.qtc_kernel.specs.WorkedOut.{IsWorkedOut}

@@ -9,7 +9,7 @@ use Rattle.qtc_ops.specs.ItemValue.{ItemValue}
 use Rattle.qtc_shared.specs.Journals.{BeginsWith, IsJournal}
 use Rattle.qtc_shared.specs.Parts.{future_at}
 use Rattle.qtc_shared.specs.Passes.{Meets, PassState}
-use Rattle.qtc_kernel.specs.Crews.{Crew, DeskState, IsBoard}
+use Rattle.qtc_kernel.specs.EngineParts.{EngineParts, DeskState, IsBoard}
 
 -- the desk's pass knows no more than this journal, and saw nothing since
 pub record IsMet {F : Type 0} (journal : List (Logged (List ℕ))) (desk : DeskState F) : Type 0 where
@@ -38,7 +38,7 @@ pub record AreGathered {F : Type 0} (journal : List (Logged (List ℕ))) (old ne
 
 -- the future was finished at a journal that the first desk's pass met; what the others have was brought in to the
 -- journal that is then known; and all seats are gathered
-pub record AreSettled {F : Type 0} (value : F → List ℕ → ItemValue) (crew : Crew F) (first : DeskState F)
+pub record AreSettled {F : Type 0} (value : F → List ℕ → ItemValue) (parts : EngineParts F) (first : DeskState F)
     (others : List (DeskState F)) (known : List (Logged (List ℕ))) : Type 0 where
   pub journal : List (Logged (List ℕ))
   pub met : Meets first.pass journal
@@ -49,10 +49,10 @@ pub record AreSettled {F : Type 0} (value : F → List ℕ → ItemValue) (crew 
   -- the tally before, beside the board's pass where it knows the finish
   pub before : TallyState
   pub board : PassState (List ℕ)
-  pub board_is : IsBoard value crew before board
+  pub board_is : IsBoard value parts before board
   pub board_knows : board.known ≡ known
   pub tally : TallyState
-  pub gathered : IsGathered crew.counter tally
+  pub gathered : IsGathered parts.counter tally
   pub knows : HasAll tally → KnowsClaims tally
   pub of : tally.of ≡ before.of
   pub workers : tally.workers ≡ before.workers ++ workers_at (first ∷ others)

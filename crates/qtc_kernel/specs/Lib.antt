@@ -6,7 +6,7 @@ pub mod Laws
 pub mod Driving
 pub mod Inside
 pub mod Gathering
-pub mod Crews
+pub mod EngineParts
 pub mod Desks
 pub mod WorkedOut
 pub mod Turns

@@ -10,7 +10,7 @@ use Rattle.qtc_future.specs.declared.requests.Request.TheVariants.{Cancel, Fail}
 use Rattle.qtc_ops.specs.ItemValue.{ItemValue}
 use Rattle.qtc_shared.specs.Journals.{BeginsWith}
 use Rattle.qtc_shared.specs.Passes.{IsHold, IsLook, IsResumed, Makes, PassState}
-use Rattle.qtc_kernel.specs.Crews.{Crew, DeskState, HasMetEnd, IsDesk, KnowsEnd, is_strange, ranges_by, reporter, shows_end, work_of}
+use Rattle.qtc_kernel.specs.EngineParts.{EngineParts, DeskState, HasMetEnd, IsDesk, KnowsEnd, is_strange, ranges_by, reporter, shows_end, work_of}
 use Rattle.qtc_kernel.specs.WorkedOut.{Continues}
 use Rattle.qtc_kernel.specs.Workload.{first_bad, indexes_of, item_at}
 use Rattle.qtc_kernel.specs.declared.turn.Turn.{Turn}
@@ -49,13 +49,13 @@ pub record HasMade (old new : PassState (List ℕ)) (request : Request (List ℕ
   pub made : IsHold before after (Makes before request (Effect effect))
   pub later : GoesOn after new
 
-module _ {F : Type 0} (value : F → List ℕ → ItemValue) (called : F → List ℕ) (crew : Crew F) where
+module _ {F : Type 0} (value : F → List ℕ → ItemValue) (called : F → List ℕ) (parts : EngineParts F) where
   -- one claim more, of the size whose turn it was, which gave this range
   pub record ClaimsRange (old new : DeskState F) (range : ℕ × ℕ) : Type 0 where
     pub claim : Addition
-    pub added : LoadsAndAdds (slice_index crew.sizes old.turn) old.seat.worker claim new.seat.worker
-    pub below : claim.begin < crew.counter.n
-    pub range_is : range ≡ clipped crew.counter.n claim
+    pub added : LoadsAndAdds (slice_index parts.sizes old.turn) old.seat.worker claim new.seat.worker
+    pub below : claim.begin < parts.counter.n
+    pub range_is : range ≡ clipped parts.counter.n claim
 
   -- the function was called on the indexes of a range, ascending, and on no others
   abbrev pub Calls : (old new : DeskState F) → ℕ × ℕ → Type 0
@@ -66,14 +66,14 @@ module _ {F : Type 0} (value : F → List ℕ → ItemValue) (called : F → Lis
     pub looked : LooksFree old.pass new.pass
     pub claims : ClaimsRange old new range
     pub calls : Calls old new range
-    pub good : first_bad (work_of value crew) range ≡ None
-    pub reported : Contains (ranges_by (reporter crew) new.pass.known) range
-        ⊎ IsTrue (list_any (is_strange (reporter crew)) new.pass.known)
+    pub good : first_bad (work_of value parts) range ≡ None
+    pub reported : Contains (ranges_by (reporter parts) new.pass.known) range
+        ⊎ IsTrue (list_any (is_strange (reporter parts)) new.pass.known)
 
   -- nothing was left to claim
   pub record FindsNothing (old new : DeskState F) : Type 0 where
     pub looked : LooksFree old.pass new.pass
-    pub claims : ClaimsNone crew.counter.n (slice_index crew.sizes old.turn) old.seat.worker new.seat.worker
+    pub claims : ClaimsNone parts.counter.n (slice_index parts.sizes old.turn) old.seat.worker new.seat.worker
     pub calls : called new.function ≡ called old.function
 
   -- the last look showed an end, before a claim
@@ -88,7 +88,7 @@ module _ {F : Type 0} (value : F → List ℕ → ItemValue) (called : F → Lis
     pub range : ℕ × ℕ
     pub claims : ClaimsRange old new range
     pub calls : Calls old new range
-    pub good : first_bad (work_of value crew) range ≡ None
+    pub good : first_bad (work_of value parts) range ≡ None
     pub ended : KnowsEnd new.pass
 
   -- an end was met: before a claim, or as the values of a block came to be reported
@@ -101,9 +101,9 @@ module _ {F : Type 0} (value : F → List ℕ → ItemValue) (called : F → Lis
     pub looked : LooksFree old.pass new.pass
     pub range : ℕ × ℕ
     pub claims : ClaimsRange old new range
-    pub first : first_bad (work_of value crew) range ≡ Some index
+    pub first : first_bad (work_of value parts) range ≡ Some index
     pub calls : Calls old new (range.0, index + 1)
-    pub fails : HasMade old.pass new.pass (Fail index (item_at (work_of value crew) index))
+    pub fails : HasMade old.pass new.pass (Fail index (item_at (work_of value parts) index))
     pub met : HasMetEnd new.pass
 
   -- memory was wanted for a block, of which a front was called; the future was told to cancel
@@ -127,14 +127,14 @@ module _ {F : Type 0} (value : F → List ℕ → ItemValue) (called : F → Lis
 
 -- whether a further worker would find something to do: an index is left, Canceled doesn't stand, and fewer than all
 -- workers are in, each as one load of this call shows it
-pub record MayStart {F : Type 0} (crew : Crew F) (old new : DeskState F) (answer : Bool) : Type 0 where
+pub record MayStart {F : Type 0} (parts : EngineParts F) (old new : DeskState F) (answer : Bool) : Type 0 where
   pub counter : new.seat.worker ≡ after_load new.seat.worker.seen old.seat.worker
   pub flags : Standing
   pub future : IsLook old.pass new.pass flags
   pub count : ℕ
   pub active : new.badge ≡ record old.badge { seen = old.badge.seen ++ count ∷ [] }
   pub exactly : IsTrue answer
-      ↔ ((new.seat.worker.seen < crew.counter.n) × (flags.canceled ≡ false) × (count < crew.counter.workers))
+      ↔ ((new.seat.worker.seen < parts.counter.n) × (flags.canceled ≡ false) × (count < parts.counter.workers))
 
 -- the worker stays in after a block, and after no other answer
 abbrev pub goes_on : Turn → Bool
@@ -142,13 +142,13 @@ goes_on (Did range) = true
 goes_on _ = false
 
 -- turns, each of which did a block, and one that answered otherwise
-pub record IsLastTurn {F : Type 0} (value : F → List ℕ → ItemValue) (called : F → List ℕ) (crew : Crew F)
+pub record IsLastTurn {F : Type 0} (value : F → List ℕ → ItemValue) (called : F → List ℕ) (parts : EngineParts F)
     (old new : DeskState F) (turn : Turn) : Type 0 where
   pub before : DeskState F
-  pub desk : IsDesk value called crew before
+  pub desk : IsDesk value called parts before
   pub number : before.pass.number ≡ old.pass.number
   pub function : Continues value called old.function before.function
-  pub turn_is : IsTurn value called crew before new turn
+  pub turn_is : IsTurn value called parts before new turn
   pub over : goes_on turn ≡ false
 
 -- whether a worker wanted memory, after one more turn

@@ -10,7 +10,7 @@ use Rattle.qtc_future.specs.declared.requests.Request.TheVariants.{Cancel, Fail}
 use Rattle.qtc_ops.specs.ItemValue.{ItemValue}
 use Rattle.qtc_shared.specs.Journals.{flags_at}
 use Rattle.qtc_shared.specs.Passes.{PassState, having_seen}
-use Rattle.qtc_kernel.specs.Crews.{AreHandedIn, AreOwnCalls, AreWorkedOn, Crew, DeskState, HasMetEnd, IsSeated, KnowsEnd, given_at, is_strange, ranges_by, reporter, shows_end, work_of}
+use Rattle.qtc_kernel.specs.EngineParts.{AreHandedIn, AreOwnCalls, AreWorkedOn, EngineParts, DeskState, HasMetEnd, IsSeated, KnowsEnd, given_at, is_strange, ranges_by, reporter, shows_end, work_of}
 use Rattle.qtc_kernel.specs.Turns.{Calls, HasMade, lacks_after}
 use Rattle.qtc_kernel.specs.Workload.{first_bad, item_at}
 use Rattle.qtc_kernel.specs.declared.turn.Turn.{Turn}
@@ -22,15 +22,15 @@ pub record HasLooked (old new : PassState (List ℕ)) : Type 0 where
   pub pass : new ≡ having_seen old seen
 
 -- the piece is of the engine, has an index, and its size is one of the engine's
-pub record IsPieceOf {F : Type 0} (crew : Crew F) (piece : PieceState) : Type 0 where
-  pub of : piece.of ≡ crew.counter
-  pub below : piece.addition.begin < crew.counter.n
+pub record IsPieceOf {F : Type 0} (parts : EngineParts F) (piece : PieceState) : Type 0 where
+  pub of : piece.of ≡ parts.counter
+  pub below : piece.addition.begin < parts.counter.n
   pub some : 1 ≤ piece.addition.size
-  pub listed : Contains crew.sizes piece.addition.size
+  pub listed : Contains parts.sizes piece.addition.size
 
 -- the indexes of a piece
-abbrev pub range_in : {F : Type 0} → Crew F → PieceState → ℕ × ℕ
-range_in crew piece = clipped crew.counter.n piece.addition
+abbrev pub range_in : {F : Type 0} → EngineParts F → PieceState → ℕ × ℕ
+range_in parts piece = clipped parts.counter.n piece.addition
 
 -- the range was reported by this number, or there is a report of another
 abbrev pub IsReported : ℕ → List (Logged (List ℕ)) → ℕ × ℕ → Type 0
@@ -59,45 +59,45 @@ pub record StaysAtWork {F : Type 0} (old new : DeskState F) (turn : Turn) : Type
   pub badge : new.badge ≡ old.badge
   pub lacks : new.lacks ≡ lacks_after old.lacks turn
 
-module _ {F : Type 0} (value : F → List ℕ → ItemValue) (called : F → List ℕ) (crew : Crew F) where
+module _ {F : Type 0} (value : F → List ℕ → ItemValue) (called : F → List ℕ) (parts : EngineParts F) where
   -- a desk whose worker has a piece in hand, of its last claim; all claims before were worked on and handed in
   pub record IsAtWork (desk : DeskState F) (piece : PieceState) : Type 0 where
-    pub seated : IsSeated value crew desk
+    pub seated : IsSeated value parts desk
     pub claims : List Addition
-    pub last : given_at crew.counter.n desk ≡ claims ++ piece.addition ∷ []
-    pub own : AreOwnCalls value called crew desk
-    pub worked : AreWorkedOn crew.counter.n claims [] (called desk.function)
-    pub handed : AreHandedIn crew.counter.n (reporter crew) claims desk.pass
-    pub piece_is : IsPieceOf crew piece
+    pub last : given_at parts.counter.n desk ≡ claims ++ piece.addition ∷ []
+    pub own : AreOwnCalls value called parts desk
+    pub worked : AreWorkedOn parts.counter.n claims [] (called desk.function)
+    pub handed : AreHandedIn parts.counter.n (reporter parts) claims desk.pass
+    pub piece_is : IsPieceOf parts piece
 
   -- a desk that leaves its piece, of which a front was called
   pub record IsLeaving (desk : DeskState F) (piece : PieceState) : Type 0 where
-    pub seated : IsSeated value crew desk
-    pub own : AreOwnCalls value called crew desk
-    pub part : AreWorkedOn crew.counter.n (given_at crew.counter.n desk) (piece.addition ∷ []) (called desk.function)
-    pub piece_is : IsPieceOf crew piece
+    pub seated : IsSeated value parts desk
+    pub own : AreOwnCalls value called parts desk
+    pub part : AreWorkedOn parts.counter.n (given_at parts.counter.n desk) (piece.addition ∷ []) (called desk.function)
+    pub piece_is : IsPieceOf parts piece
 
   -- memory was wanted for the piece in hand, of which a front was called, and the future told to cancel
   pub record HasWanted (old new : DeskState F) (range : ℕ × ℕ) : Type 0 where
     pub at : ℕ
     pub front : (range.0 ≤ at) × (at ≤ range.1)
-    pub calls : Calls value called crew old new (range.0, at)
+    pub calls : Calls value called parts old new (range.0, at)
     pub cancels : HasMade old.pass new.pass Cancel
     pub met : HasMetEnd new.pass
 
   -- what became of the piece in hand
   abbrev pub IsWorked : (old new : DeskState F) → ℕ × ℕ → Turn → Type 0
   IsWorked old new range (Did did) =
-      ((did.begin, did.end) ≡ range) × Calls value called crew old new range
-      × (first_bad (work_of value crew) range ≡ None)
-      × IsReported (reporter crew) new.pass.known range
+      ((did.begin, did.end) ≡ range) × Calls value called parts old new range
+      × (first_bad (work_of value parts) range ≡ None)
+      × IsReported (reporter parts) new.pass.known range
   IsWorked old new range Exhausted = ⊥
   IsWorked old new range SawCanceled =
-      Calls value called crew old new range × (first_bad (work_of value crew) range ≡ None) × KnowsEnd new.pass
+      Calls value called parts old new range × (first_bad (work_of value parts) range ≡ None) × KnowsEnd new.pass
   IsWorked old new range (Failed index) =
-      Calls value called crew old new (range.0, index + 1)
-      × (first_bad (work_of value crew) range ≡ Some index)
-      × HasMade old.pass new.pass (Fail index (item_at (work_of value crew) index)) × HasMetEnd new.pass
+      Calls value called parts old new (range.0, index + 1)
+      × (first_bad (work_of value parts) range ≡ Some index)
+      × HasMade old.pass new.pass (Fail index (item_at (work_of value parts) index)) × HasMetEnd new.pass
   IsWorked old new range Memory = HasWanted old new range
 
 -- what neither a fail nor a cancel changes

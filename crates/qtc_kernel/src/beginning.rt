@@ -1,6 +1,6 @@
 //! The future of an engine as it begins.
 ghost use Rattle.std.specs.Prelude.{◌≤◌, IfOk};
-ghost use Rattle.qtc_kernel.specs.Crews.{IsOpened, plan_terms};
+ghost use Rattle.qtc_kernel.specs.EngineParts.{IsOpened, plan_terms};
 
 use crate::Kind;
 use qtc_base::{Bytes, NoMemory};

@@ -1,7 +1,7 @@
 //! What the workers of an engine share under a lock.
 ghost use Rattle.std.specs.Prelude.{◌≡◌, true, IfOk};
 ghost use Rattle.std.specs.Borrow.{ftrue};
-ghost use Rattle.qtc_kernel.specs.Crews.{Crew, IsBoard, crew_with};
+ghost use Rattle.qtc_kernel.specs.EngineParts.{EngineParts, IsBoard, parts_with};
 
 use qtc_active::ActiveCount;
 use qtc_base::{Bytes, Items, List, NoMemory};
@@ -24,7 +24,7 @@ pub(crate) struct Board<F> {
 /// Which engine a board is of. No value of it is made.
 pub(crate) struct Place<F> {
     marker: PhantomData<F>,
-    pub ghost crew: { Crew F },
+    pub ghost parts: { EngineParts F },
 }
 
 impl<F> Model for Place<F> {
@@ -33,19 +33,19 @@ impl<F> Model for Place<F> {
 
 impl<F> Names<Place<F>> for Brand {
     ghost use Rattle.std.specs.Prelude.{false};
-    ghost use Rattle.qtc_kernel.specs.Crews.{no_crew};
+    ghost use Rattle.qtc_kernel.specs.EngineParts.{no_parts};
 
-    ghost key = { record { marker = record {}; crew = no_crew } };
+    ghost key = { record { marker = record {}; parts = no_parts } };
 
     ghost named = { false };
 }
 
 impl<F: ItemFn> Keyed for Board<F> {
-    ghost use Rattle.qtc_kernel.specs.Crews.{IsBoard};
+    ghost use Rattle.qtc_kernel.specs.EngineParts.{IsBoard};
 
     type Key = Place<F>;
 
-    ghost fits = { λ place board. IsBoard F.value place.crew board.tally board.pass };
+    ghost fits = { λ place board. IsBoard F.value place.parts board.tally board.pass };
 }
 
 /// A lock over the board of an engine of these parts. Err is want of memory.
@@ -60,10 +60,11 @@ pub(crate) fn placed<F: ItemFn, J: Names<Place<F>>>(
     sizes: &List<u32>,
 ) -> Result<KeyLock<Board<F>>, NoMemory>
     requires named { J.named ≡ true }
-    requires place { J.key.crew ≡ crew_with counter.now future.now active.now items.now functions.now.items sizes.now }
-    requires fits { IsBoard F.value J.key.crew board.tally board.pass }
-    ensures { IfOk result (λ lock. lock.key.crew
-        ≡ crew_with counter.now future.now active.now items.now functions.now.items sizes.now) }
+    requires place { J.key.parts
+        ≡ parts_with counter.now future.now active.now items.now functions.now.items sizes.now }
+    requires fits { IsBoard F.value J.key.parts board.tally board.pass }
+    ensures { IfOk result (λ lock. lock.key.parts
+        ≡ parts_with counter.now future.now active.now items.now functions.now.items sizes.now) }
 {
     match KeyLock::new::<Brand>(alloc, board) {
         Ok(lock) => Ok(lock),

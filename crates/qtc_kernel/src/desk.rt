@@ -1,5 +1,5 @@
 ghost use Rattle.std.specs.Prelude.{◌≡◌, IfOk, length};
-ghost use Rattle.qtc_kernel.specs.Crews.{desks_with};
+ghost use Rattle.qtc_kernel.specs.EngineParts.{desks_with};
 
 use qtc_active::Badge;
 use qtc_base::{Bytes, NoMemory};
@@ -24,7 +24,7 @@ pub struct Desk<F> {
 }
 
 impl<F> Model for Desk<F> {
-    ghost use Rattle.qtc_kernel.specs.Crews.{DeskState};
+    ghost use Rattle.qtc_kernel.specs.EngineParts.{DeskState};
 
     ghost Value = { DeskState F };
 

@@ -1,6 +1,6 @@
 //! An engine that many workers drive.
 ghost use Rattle.std.specs.Prelude.{◌≡◌, ◌&&◌, not, nat_lt, true, false, IfOk};
-ghost use Rattle.qtc_kernel.specs.Crews.{IsDesk, IsEngineOf, IsPlanned, IsSameButLooks, plan_terms};
+ghost use Rattle.qtc_kernel.specs.EngineParts.{IsDesk, IsEngineOf, IsPlanned, IsSameButLooks, plan_terms};
 ghost use Rattle.qtc_kernel.specs.Turns.{MayStart};
 
 use crate::beginning::{Opened, open_future};
@@ -21,7 +21,7 @@ use std::marker::{Brand, Model, PhantomData};
 /// and IterateKernel.)
 ///
 /// Contracts see its counter, its future, its count of workers that are in, the items, the functions of its workers as they began, and the sizes of its
-/// blocks (`Crew`).
+/// blocks (`EngineParts`).
 #[derive(Drop)]
 pub struct Engine<'a, F: ItemFn, G: Gate> {
     pub(crate) alloc: Global,
@@ -38,13 +38,13 @@ pub struct Engine<'a, F: ItemFn, G: Gate> {
 }
 
 impl<'a, F: ItemFn, G: Gate> Model for Engine<'a, F, G> {
-    ghost use Rattle.qtc_kernel.specs.Crews.{Crew};
+    ghost use Rattle.qtc_kernel.specs.EngineParts.{EngineParts};
 
-    ghost Value = { Crew F };
+    ghost Value = { EngineParts F };
 
     ghost use Rattle.qtc_kernel.specs.Desks.{IsEngine};
 
-    ghost view = { λ a. a.board.key.crew };
+    ghost view = { λ a. a.board.key.parts };
 
     ghost invariant = { IsEngine F.value };
 }

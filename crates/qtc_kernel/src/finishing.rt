@@ -3,7 +3,7 @@ ghost use Rattle.std.specs.Prelude.{◌≡◌, ◌≤◌, ◌⊎◌, ◌++◌, �
 ghost use Rattle.qtc_claim.specs.Counter.{IsGathered};
 ghost use Rattle.qtc_shared.specs.Journals.{calls_by, flags_at};
 ghost use Rattle.qtc_shared.specs.Passes.{IsHold, Meets, Stays};
-ghost use Rattle.qtc_kernel.specs.Crews.{AreDesks, HasMetEnd, IsBoard, IsDesk, work_of};
+ghost use Rattle.qtc_kernel.specs.EngineParts.{AreDesks, HasMetEnd, IsBoard, IsDesk, work_of};
 ghost use Rattle.qtc_kernel.specs.Endings.{AreGathered, AreSettled, IsMet, functions_at, with_seat};
 ghost use Rattle.qtc_kernel.specs.Turns.{GoesOn};
 ghost use Rattle.qtc_kernel.specs.WorkedOut.{AreContinued, Continues, IsWorkedOut, calls_of};

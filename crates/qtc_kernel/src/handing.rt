@@ -2,7 +2,7 @@
 ghost use Rattle.std.specs.Prelude.{◌≡◌, None, IfErr, IfOk};
 ghost use Rattle.qtc_future.specs.Steps.{told_by};
 ghost use Rattle.qtc_shared.specs.Passes.{IsHold, Stays};
-ghost use Rattle.qtc_kernel.specs.Crews.{IsBoard, IsLeft, KnowsEnd, reporter, work_of};
+ghost use Rattle.qtc_kernel.specs.EngineParts.{IsBoard, IsLeft, KnowsEnd, reporter, work_of};
 ghost use Rattle.qtc_kernel.specs.Working.{IsHandedIn, IsPieceOf, is_drop, range_in};
 ghost use Rattle.qtc_kernel.specs.Workload.{first_bad, texts_in};
 

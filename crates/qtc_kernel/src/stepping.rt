@@ -1,7 +1,7 @@
 //! One turn of a worker.
 ghost use Rattle.std.specs.Prelude.{◌≡◌, ◌+◌, ◌<◌, ◌⊎◌, true, false, None, Some, IsTrue, cond, nat_lt};
 ghost use Rattle.qtc_events.specs.Flags.{flags_in};
-ghost use Rattle.qtc_kernel.specs.Crews.{HasMetEnd, IsDesk, IsFailedCall, shows_end, work_of};
+ghost use Rattle.qtc_kernel.specs.EngineParts.{HasMetEnd, IsDesk, IsFailedCall, shows_end, work_of};
 ghost use Rattle.qtc_kernel.specs.Turns.{IsLastTurn, IsTurn, LooksEnded, LooksFree, goes_on, lacks_after};
 ghost use Rattle.qtc_kernel.specs.WorkedOut.{Continues};
 ghost use Rattle.qtc_kernel.specs.Working.{FailsOrWants, HasGivenUp, HasLooked, IsAtWork, IsLeaving, IsWorked, StaysAtWork, is_waiting, range_in};

@@ -240,14 +240,14 @@ sizes-jobs names above (job args ∷ ls) good =
 
 -- ---- the number of workers
 
-crew-good : (above ls : List Line) → AllGood above ls → IsWithin 1 32 (workers_of ls)
-crew-good above [] good = (omega arith, omega arith)
-crew-good above (too_long ∷ ls) good = crew-good (too_long ∷ above) ls good.1
-crew-good above (silent ∷ ls) good = crew-good (silent ∷ above) ls good.1
-crew-good above (unknown ∷ ls) good = crew-good (unknown ∷ above) ls good.1
-crew-good above (job args ∷ ls) good = crew-good (job args ∷ above) ls good.1
-crew-good above (says k args ∷ ls) good = crew-good (says k args ∷ above) ls good.1
-crew-good above (workers args ∷ ls) good =
+parts-good : (above ls : List Line) → AllGood above ls → IsWithin 1 32 (workers_of ls)
+parts-good above [] good = (omega arith, omega arith)
+parts-good above (too_long ∷ ls) good = parts-good (too_long ∷ above) ls good.1
+parts-good above (silent ∷ ls) good = parts-good (silent ∷ above) ls good.1
+parts-good above (unknown ∷ ls) good = parts-good (unknown ∷ above) ls good.1
+parts-good above (job args ∷ ls) good = parts-good (job args ∷ above) ls good.1
+parts-good above (says k args ∷ ls) good = parts-good (says k args ∷ above) ls good.1
+parts-good above (workers args ∷ ls) good =
     let own = nil-parts (own_codes above (workers args)) [] good.0 in
     let form = nil-parts (form_codes [] (workers_form args)) (above_codes above (workers args)) own.0 in
     workers-said args form.0
@@ -261,5 +261,5 @@ read-countable lines file reads =
       few = (let few = few-jobs [] [] lines good (omega arith) in omega arith);
       sized = sized-jobs [] [] lines good;
       blocks = sizes-jobs [] [] lines good;
-      workers = crew-good [] lines good;
+      workers = parts-good [] lines good;
     })

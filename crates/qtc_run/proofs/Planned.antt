@@ -4,7 +4,7 @@ use Rattle.std.specs.Prelude.{All, IfSome, slice_get}
 use Rattle.std.proofs.lemmas.List.Elements.{All-nil, All-cons}
 use Rattle.std.proofs.lemmas.Option.{slice_get-get_or}
 use Rattle.qtc_active.specs.Count.{BadgeState}
-use Rattle.qtc_kernel.specs.Crews.{AreDesks, Crew, DeskState, IsDesk, IsEngineOf, IsNewDesk, IsPlanned, plan_terms, value_by}
+use Rattle.qtc_kernel.specs.EngineParts.{AreDesks, EngineParts, DeskState, IsDesk, IsEngineOf, IsNewDesk, IsPlanned, plan_terms, value_by}
 use Rattle.qtc_kernel.specs.Driving.{is_filter}
 use Rattle.qtc_kernel.specs.Workload.{workload}
 use Rattle.qtc_kernel.specs.declared.kinds.Kind.{Kind}
@@ -40,15 +40,15 @@ module _ {F : Type 0} (value : F → List ℕ → ItemValue) (called : F → Lis
         suits = value-suits source.job.now.op kind source.items (value_by value functions) kind_is first;
       }
 
-  pub engine-for : (workers : ℕ) (source : Source) (kind : Kind) (cancel_after suspend_after : ℕ) (sizes : List ℕ) (functions : List F) (crew : Crew F) (desks : List (DeskState F)) (pass : PassState (List ℕ)) → 1 ≤ workers → is_filter kind ≡ is_keep source.job.now.op → sizes ≡ source.job.now.blocks
+  pub engine-for : (workers : ℕ) (source : Source) (kind : Kind) (cancel_after suspend_after : ℕ) (sizes : List ℕ) (functions : List F) (parts : EngineParts F) (desks : List (DeskState F)) (pass : PassState (List ℕ)) → 1 ≤ workers → is_filter kind ≡ is_keep source.job.now.op → sizes ≡ source.job.now.blocks
       → cancel_after ≡ source.job.now.cancel_after → suspend_after ≡ source.job.now.suspend_after → length functions ≡ workers → All (λ function. value function ≡ value_of source.job.now.op) functions
-      → IsEngineOf value called source.items (plan_terms kind cancel_after suspend_after workers) sizes functions crew desks pass → IsEngineFor value workers source crew
-  engine-for workers source kind cancel_after suspend_after sizes functions crew desks pass one kind_is sizes_are cancel_is suspend_is count does made =
+      → IsEngineOf value called source.items (plan_terms kind cancel_after suspend_after workers) sizes functions parts desks pass → IsEngineFor value workers source parts
+  engine-for workers source kind cancel_after suspend_after sizes functions parts desks pass one kind_is sizes_are cancel_is suspend_is count does made =
       let some : 1 ≤ length functions = omega (arith, one, count) in
       let first : value_by value functions ≡ value_of source.job.now.op = by-first functions (value_of source.job.now.op) some does in
-      let makers : crew.future.terms.makers ≡ workers + 1 = ap (λ (terms : Terms). terms.makers) made.terms_are in
+      let makers : parts.future.terms.makers ≡ workers + 1 = ap (λ (terms : Terms). terms.makers) made.terms_are in
       record {
-        work = ap (λ items. workload items (value_by value crew.functions)) made.items_are ∙ (ap (λ functions. workload source.items (value_by value functions)) made.functions_are ∙ ap (workload source.items) first);
+        work = ap (λ items. workload items (value_by value parts.functions)) made.items_are ∙ (ap (λ functions. workload source.items (value_by value functions)) made.functions_are ∙ ap (workload source.items) first);
         sizes = made.sizes_are ∙ sizes_are;
         count = omega (arith, makers, made.fits.makers);
         terms = made.terms_are ∙ rw (kind_is, cancel_is, suspend_is) refl;
@@ -57,32 +57,32 @@ module _ {F : Type 0} (value : F → List ℕ → ItemValue) (called : F → Lis
   some-at : {X : Type 0} (P : X → Type 0) (xs : List X) (at : ℕ) (d : X) → at < length xs → IfSome (slice_get xs at) P → P (get_or xs at d)
   some-at P xs at d within holds = subst (λ found. IfSome found P) (slice_get-get_or xs at d within) holds
 
-  pub free-desks : (items : List (List ℕ)) (terms : Terms) (sizes : List ℕ) (functions : List F) (crew : Crew F) (desks : List (DeskState F)) (pass : PassState (List ℕ)) → IsEngineOf value called items terms sizes functions crew desks pass → AreFree value called crew desks
-  free-desks items terms sizes functions crew desks pass made = record {
+  pub free-desks : (items : List (List ℕ)) (terms : Terms) (sizes : List ℕ) (functions : List F) (parts : EngineParts F) (desks : List (DeskState F)) (pass : PassState (List ℕ)) → IsEngineOf value called items terms sizes functions parts desks pass → AreFree value called parts desks
+  free-desks items terms sizes functions parts desks pass made = record {
     count = made.desks_are.count;
-    each = λ k d within. record { desk_is = made.desks_are.each k d within; out = ap (λ (b : BadgeState). b.is_in) (some-at (IsNewDesk crew k) desks k d within (made.fresh k within)).badge };
+    each = λ k d within. record { desk_is = made.desks_are.each k d within; out = ap (λ (b : BadgeState). b.is_in) (some-at (IsNewDesk parts k) desks k d within (made.fresh k within)).badge };
   }
 
   -- the desks of one engine more
-  pub seats-push : (workers : ℕ) (crews : List (Crew F)) (crew : Crew F) (desks theirs : List (DeskState F)) → crew.counter.workers ≡ workers → EachPair (IsFree value called) (each_times workers crews) desks → AreFree value called crew theirs → EachPair (IsFree value called) (each_times workers (crews ++ crew ∷ [])) (desks ++ theirs)
-  seats-push workers crews crew desks theirs count all free =
+  pub seats-push : (workers : ℕ) (all_parts : List (EngineParts F)) (parts : EngineParts F) (desks theirs : List (DeskState F)) → parts.counter.workers ≡ workers → EachPair (IsFree value called) (each_times workers all_parts) desks → AreFree value called parts theirs → EachPair (IsFree value called) (each_times workers (all_parts ++ parts ∷ [])) (desks ++ theirs)
+  seats-push workers all_parts parts desks theirs count all free =
       let long : length theirs ≡ workers = free.count ∙ count in
-      let row = subst (λ n. EachPair (IsFree value called) (replicate n crew) theirs) long (pairs-row (IsFree value called) crew theirs free.each) in
-      subst (λ row. EachPair (IsFree value called) row (desks ++ theirs)) (sym (rows-push workers crews crew)) (pairs-append (IsFree value called) (each_times workers crews) (replicate workers crew) desks theirs all row)
+      let row = subst (λ n. EachPair (IsFree value called) (replicate n parts) theirs) long (pairs-row (IsFree value called) parts theirs free.each) in
+      subst (λ row. EachPair (IsFree value called) row (desks ++ theirs)) (sym (rows-push workers all_parts parts)) (pairs-append (IsFree value called) (each_times workers all_parts) (replicate workers parts) desks theirs all row)
 
   -- each engine has so many workers
-  pub all-have : (workers : ℕ) (sources : List Source) (crews : List (Crew F)) → EachPair (IsEngineFor value workers) sources crews → All (λ crew. crew.counter.workers ≡ workers) crews
-  all-have workers [] [] all = All-nil (λ crew. crew.counter.workers ≡ workers)
-  all-have workers [] (crew ∷ crews) all = absurd all
+  pub all-have : (workers : ℕ) (sources : List Source) (all_parts : List (EngineParts F)) → EachPair (IsEngineFor value workers) sources all_parts → All (λ parts. parts.counter.workers ≡ workers) all_parts
+  all-have workers [] [] all = All-nil (λ parts. parts.counter.workers ≡ workers)
+  all-have workers [] (parts ∷ all_parts) all = absurd all
   all-have workers (source ∷ sources) [] all = absurd all
-  all-have workers (source ∷ sources) (crew ∷ crews) all = All-cons (λ crew. crew.counter.workers ≡ workers) crew crews all.0.count (all-have workers sources crews all.1)
+  all-have workers (source ∷ sources) (parts ∷ all_parts) all = All-cons (λ parts. parts.counter.workers ≡ workers) parts all_parts all.0.count (all-have workers sources all_parts all.1)
 
   -- free desks are desks of the engine whose workers are out
-  pub are-desks : (workers : ℕ) (crew : Crew F) (desks : List (DeskState F)) → length desks ≡ workers → crew.counter.workers ≡ workers → All (IsFree value called crew) desks → AreDesks value called crew desks
-  are-desks workers crew desks long count free = record {
+  pub are-desks : (workers : ℕ) (parts : EngineParts F) (desks : List (DeskState F)) → length desks ≡ workers → parts.counter.workers ≡ workers → All (IsFree value called parts) desks → AreDesks value called parts desks
+  are-desks workers parts desks long count free = record {
     count = long ∙ sym count;
-    each = all-imply (IsFree value called crew) (IsDesk value called crew) desks (λ desk is. is.desk_is) free;
+    each = all-imply (IsFree value called parts) (IsDesk value called parts) desks (λ desk is. is.desk_is) free;
   }
 
-  pub are-out : (crew : Crew F) (desks : List (DeskState F)) → All (IsFree value called crew) desks → All (λ desk. desk.badge.is_in ≡ false) desks
-  are-out crew desks free = all-imply (IsFree value called crew) (λ desk. desk.badge.is_in ≡ false) desks (λ desk is. is.out) free
+  pub are-out : (parts : EngineParts F) (desks : List (DeskState F)) → All (IsFree value called parts) desks → All (λ desk. desk.badge.is_in ≡ false) desks
+  are-out parts desks free = all-imply (IsFree value called parts) (λ desk. desk.badge.is_in ≡ false) desks (λ desk is. is.out) free

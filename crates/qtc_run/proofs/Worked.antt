@@ -14,7 +14,7 @@ use Rattle.qtc_future.specs.Legal.{IsLegal}
 use Rattle.qtc_future.specs.declared.replies.Outcome.{Outcome}
 use Rattle.qtc_future.specs.declared.replies.Outcome.TheVariants.{Values, Failed, Canceled}
 use Rattle.qtc_job_file.specs.declared.jobs.Job.{Job}
-use Rattle.qtc_kernel.specs.Crews.{Crew}
+use Rattle.qtc_kernel.specs.EngineParts.{EngineParts}
 use Rattle.qtc_kernel.specs.Driving.{is_filter}
 use Rattle.qtc_kernel.specs.WorkedOut.{IsWorkedOut, IsOpenedAndFinished as IsOpened}
 use Rattle.qtc_kernel.specs.Workload.{Suits, Workload, bad_indexes, item_at, kept_texts, size_of, workload}
@@ -185,11 +185,11 @@ runnable-at (first ∷ jobs) (suc place) job all within is = runnable-at jobs pl
 
 -- ---- an engine that was closed
 
-pub closed-report : {F : Type 0} (value : F → List ℕ → ItemValue) (workers : ℕ) (source : Source) (crew : Crew F) (done : Finished F) (core : Future (List ℕ)) (report : JobReport) → WorkedJobsAreReported → IsReady source → IsEngineFor value workers source crew → HasDone value crew done → core ≡ future_at crew.future.terms core.calls → (IsTrue (flags_at done.pass.known).finished → core.calls ≡ done.pass.known) → report.calls ≡ done.calls → IsMadeOf source.job.now report core → is_canceled_end report.ended ≡ false → IsReportFor source report
-closed-report value workers source crew done core report law ready engine has core_is whole calls made going =
-    let terms : Terms = crew.future.terms in
+pub closed-report : {F : Type 0} (value : F → List ℕ → ItemValue) (workers : ℕ) (source : Source) (parts : EngineParts F) (done : Finished F) (core : Future (List ℕ)) (report : JobReport) → WorkedJobsAreReported → IsReady source → IsEngineFor value workers source parts → HasDone value parts done → core ≡ future_at parts.future.terms core.calls → (IsTrue (flags_at done.pass.known).finished → core.calls ≡ done.pass.known) → report.calls ≡ done.calls → IsMadeOf source.job.now report core → is_canceled_end report.ended ≡ false → IsReportFor source report
+closed-report value workers source parts done core report law ready engine has core_is whole calls made going =
+    let terms : Terms = parts.future.terms in
     let known : List (Logged (List ℕ)) = done.pass.known in
-    let first = subst (λ (work : Workload). IsWorkedOut work crew.sizes terms known done.calls) engine.work has.worked in
+    let first = subst (λ (work : Workload). IsWorkedOut work parts.sizes terms known done.calls) engine.work has.worked in
     let second = subst (λ (sizes : List ℕ). IsWorkedOut (work_in source) sizes terms known done.calls) engine.sizes first in
     let third = subst (λ (terms : Terms). IsWorkedOut (work_in source) source.job.now.blocks terms known done.calls) engine.terms second in
     let fourth = subst (λ (journal : List (Logged (List ℕ))). IsWorkedOut (work_in source) source.job.now.blocks (terms_of workers source.job.now) journal done.calls) (sym (whole has.finished)) third in

@@ -1,7 +1,7 @@
 -- The jobs of a round: their engines, and the desks of the pool's workers. (Own.)
 use Rattle.std.specs.Prelude.{◌≡◌, ◌+◌, ◌<◌, ◌≤◌, ℕ, false, List, [], ◌∷◌, ◌++◌, All, IsTrue, length, replicate}
 use Rattle.qtc_job_file.specs.declared.jobs.Job.{Job}
-use Rattle.qtc_kernel.specs.Crews.{Crew, DeskState, IsDesk, work_of as crew_work}
+use Rattle.qtc_kernel.specs.EngineParts.{EngineParts, DeskState, IsDesk, work_of as engine_work}
 use Rattle.qtc_kernel.specs.Driving.{AreSizes}
 use Rattle.qtc_kernel.specs.WorkedOut.{IsWorkedOut}
 use Rattle.qtc_kernel.specs.Workload.{Workload, workload}
@@ -48,28 +48,28 @@ terms_of workers job = record {
 
 module _ {F : Type 0} (value : F → List ℕ → ItemValue) where
   -- the engine of a job: it works on the job's items by its operation and in its blocks, with so many workers
-  pub record IsEngineFor (workers : ℕ) (source : Source) (crew : Crew F) : Type 0 where
-    pub work : crew_work value crew ≡ work_in source
-    pub sizes : crew.sizes ≡ source.job.now.blocks
-    pub count : crew.counter.workers ≡ workers
-    pub terms : crew.future.terms ≡ terms_of workers source.job.now
+  pub record IsEngineFor (workers : ℕ) (source : Source) (parts : EngineParts F) : Type 0 where
+    pub work : engine_work value parts ≡ work_in source
+    pub sizes : parts.sizes ≡ source.job.now.blocks
+    pub count : parts.counter.workers ≡ workers
+    pub terms : parts.future.terms ≡ terms_of workers source.job.now
 
   -- what the engine has done, and a pass of it that knows the whole journal
-  pub record HasDone (crew : Crew F) (done : Finished F) : Type 0 where
-    pub of : done.pass.of ≡ crew.future
+  pub record HasDone (parts : EngineParts F) (done : Finished F) : Type 0 where
+    pub of : done.pass.of ≡ parts.future
     pub finished : IsTrue (flags_at done.pass.known).finished
-    pub worked : IsWorkedOut (crew_work value crew) crew.sizes crew.future.terms done.pass.known done.calls
+    pub worked : IsWorkedOut (engine_work value parts) parts.sizes parts.future.terms done.pass.known done.calls
 
 module _ {F : Type 0} (value : F → List ℕ → ItemValue) (called : F → List ℕ) where
   -- a desk of the engine whose worker is out
-  pub record IsFree (crew : Crew F) (desk : DeskState F) : Type 0 where
-    pub desk_is : IsDesk value called crew desk
+  pub record IsFree (parts : EngineParts F) (desk : DeskState F) : Type 0 where
+    pub desk_is : IsDesk value called parts desk
     pub out : desk.badge.is_in ≡ false
 
   -- all desks of the engine, whose workers are out
-  pub record AreFree (crew : Crew F) (desks : List (DeskState F)) : Type 0 where
-    pub count : length desks ≡ crew.counter.workers
-    pub each : All (IsFree crew) desks
+  pub record AreFree (parts : EngineParts F) (desks : List (DeskState F)) : Type 0 where
+    pub count : length desks ≡ parts.counter.workers
+    pub each : All (IsFree parts) desks
 
 -- each of them so many times: of all places, those at a job after those at the one before, one for each worker
 abbrev pub each_times : {X : Type 0} → ℕ → List X → List X

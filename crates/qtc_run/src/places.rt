@@ -18,9 +18,9 @@ pub(crate) struct Place<'e, 'a, F: ItemFn, G: Gate> {
 }
 
 impl<'e, 'a, F: ItemFn, G: Gate> Model for Place<'e, 'a, F, G> {
-    ghost use Rattle.qtc_kernel.specs.Crews.{Crew};
+    ghost use Rattle.qtc_kernel.specs.EngineParts.{EngineParts};
 
-    ghost Value = { Crew F };
+    ghost Value = { EngineParts F };
 
     ghost use Rattle.qtc_run.specs.Rounds.{IsFree};
 

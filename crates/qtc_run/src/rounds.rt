@@ -1,7 +1,7 @@
 //! A round of jobs: an engine for each, and one pool whose workers have a desk at each engine.
 ghost use Rattle.std.specs.Prelude.{List as PlainList, ◌≡◌, ◌<◌, ◌≤◌, ◌++◌, [], All, IfOk, OnOk, drop, length, replicate, take};
 ghost use Rattle.std.specs.Vec.Iter.{into_iter_items};
-ghost use Rattle.qtc_kernel.specs.Crews.{Crew};
+ghost use Rattle.qtc_kernel.specs.EngineParts.{EngineParts};
 ghost use Rattle.qtc_ops.specs.Operations.{value_of};
 ghost use Rattle.qtc_run.specs.Pairing.{EachPair};
 ghost use Rattle.qtc_run.specs.Reports.{IsPoolRun};
@@ -223,9 +223,9 @@ fn desks_at<'e, 'a, F: ItemFn + Drop, G: Gate>(
     places: &mut IntoIter<Place<'e, 'a, F, G>>,
     count: u32,
 ) -> Result<Vec<Desk<F>>, NoMemory>
-    ensures { IfOk result (λ desks. (crew : Crew F) (rest : PlainList (Crew F)) →
-        into_iter_items places.old ≡ replicate count crew ++ rest →
-        (length desks.items ≡ count) × All (IsFree F.value F.called crew) desks.items
+    ensures { IfOk result (λ desks. (parts : EngineParts F) (rest : PlainList (EngineParts F)) →
+        into_iter_items places.old ≡ replicate count parts ++ rest →
+        (length desks.items ≡ count) × All (IsFree F.value F.called parts) desks.items
         × (into_iter_items places.new ≡ rest)) }
 {
     let mut desks = Vec::new(alloc);
@@ -246,7 +246,7 @@ fn finish_all<'e, 'a, F: ItemFn + Drop, G: Gate, R: Wait>(
     workers: u32,
 ) -> Result<Vec<Finished<F>>, NoMemory>
     requires places { places.items ≡ each_times workers engines.now }
-    requires workers { All (λ crew. crew.counter.workers ≡ workers) engines.now }
+    requires workers { All (λ parts. parts.counter.workers ≡ workers) engines.now }
     ensures { IfOk result (λ finished. EachPair (HasDone F.value) engines.now finished.items) }
 {
     let mut finished = Vec::new(alloc);

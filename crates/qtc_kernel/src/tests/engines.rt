@@ -1,6 +1,6 @@
 // Engines, with a thread for each worker or step by step on one.
 ghost use Rattle.std.specs.Prelude.{◌≡◌, ◌<◌, ◌≤◌, [], false, true, All, IfOk, IfSome, length};
-ghost use Rattle.qtc_kernel.specs.Crews.{AreDesks, IsDesk, IsPlanned};
+ghost use Rattle.qtc_kernel.specs.EngineParts.{AreDesks, IsDesk, IsPlanned};
 ghost use Rattle.qtc_kernel.specs.Driving.{AreSizes, is_filter};
 ghost use Rattle.qtc_kernel.specs.Workload.{Suits, workload};
 ghost use Rattle.qtc_ops.specs.Operations.{value_of};

@@ -1,6 +1,6 @@
 // When an engine enters the gate, and how it ends where a function wants memory.
 ghost use Rattle.std.specs.Prelude.{◌≡◌, ◌≤◌, [], false, All, IfOk, length};
-ghost use Rattle.qtc_kernel.specs.Crews.{AreDesks};
+ghost use Rattle.qtc_kernel.specs.EngineParts.{AreDesks};
 ghost use Rattle.qtc_kernel.specs.Driving.{AreSizes};
 ghost use Rattle.qtc_ops.specs.ItemValue.{kept};
 

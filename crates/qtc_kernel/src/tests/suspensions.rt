@@ -1,6 +1,6 @@
 // An engine whose future is suspended.
 ghost use Rattle.std.specs.Prelude.{◌≡◌, false};
-ghost use Rattle.qtc_kernel.specs.Crews.{IsDesk};
+ghost use Rattle.qtc_kernel.specs.EngineParts.{IsDesk};
 
 use crate::tests::bytes_of;
 use crate::tests::engines::{drive, engine_of, last_desk, map_plan};

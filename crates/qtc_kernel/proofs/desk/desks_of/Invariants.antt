@@ -1,5 +1,5 @@
 use Rattle.std.proofs.Common.{◌≡◌, ◌+◌, ◌≤◌, ◌++◌, length, vec_capacity}
-use Rattle.qtc_kernel.specs.Crews.{desks_with}
+use Rattle.qtc_kernel.specs.EngineParts.{desks_with}
 use Rattle.qtc_kernel.proofs.desk.desks_of.Given as goal
 
 -- the desks so far, and those of what is left, are those of all

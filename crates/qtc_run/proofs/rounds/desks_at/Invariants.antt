@@ -1,11 +1,11 @@
 use Rattle.std.proofs.Common.{◌≡◌, ◌-◌, ◌++◌, List, length, replicate}
 use Rattle.std.specs.Prelude.{All}
 use Rattle.std.specs.Vec.Iter.{into_iter_items}
-use Rattle.qtc_kernel.specs.Crews.{Crew}
+use Rattle.qtc_kernel.specs.EngineParts.{EngineParts}
 use Rattle.qtc_run.specs.Rounds.{IsFree}
 use Rattle.qtc_run.proofs.rounds.desks_at.Given as goal
 
 abbrev pub invariant-loop : goal.invariant-loop
-invariant-loop g l = (crew : Crew g.row.F.Denot) (rest : List (Crew g.row.F.Denot)) → into_iter_items l.fn.places ≡ replicate l.count crew ++ rest →
-    (length l.desks.items ≡ l.counter) × All (IsFree g.F.ItemFn.value g.F.ItemFn.called crew) l.desks.items
-    × (into_iter_items l.places ≡ replicate (l.count - l.counter) crew ++ rest)
+invariant-loop g l = (parts : EngineParts g.row.F.Denot) (rest : List (EngineParts g.row.F.Denot)) → into_iter_items l.fn.places ≡ replicate l.count parts ++ rest →
+    (length l.desks.items ≡ l.counter) × All (IsFree g.F.ItemFn.value g.F.ItemFn.called parts) l.desks.items
+    × (into_iter_items l.places ≡ replicate (l.count - l.counter) parts ++ rest)

@@ -2,7 +2,7 @@ use Rattle.std.proofs.Common.{◌≡◌, ◌++◌, [], ◌∷◌, All, ap, sym, 
 use Rattle.std.proofs.lemmas.List.Elements.{All-push, All-tail}
 use Rattle.qtc_claim.specs.Counter.{TallyState}
 use Rattle.qtc_shared.specs.Passes.{Meets}
-use Rattle.qtc_kernel.specs.Crews.{DeskState, IsDesk}
+use Rattle.qtc_kernel.specs.EngineParts.{DeskState, IsDesk}
 use Rattle.qtc_kernel.specs.Endings.{functions_at, workers_at}
 use Rattle.qtc_kernel.proofs.AtDesks.{nothing_left, taken_first}
 use Rattle.qtc_kernel.proofs.engine.Engine.bring_all.Goals as goal

@@ -1,7 +1,7 @@
 use Rattle.std.proofs.Common.{◌≡◌, ◌++◌, List, All, IsTrue, length}
 use Rattle.qtc_claim.specs.Counter.{IsGathered}
 use Rattle.qtc_shared.specs.Passes.{Meets}
-use Rattle.qtc_kernel.specs.Crews.{DeskState, IsDesk}
+use Rattle.qtc_kernel.specs.EngineParts.{DeskState, IsDesk}
 use Rattle.qtc_kernel.specs.Endings.{functions_at, workers_at}
 use Rattle.qtc_kernel.proofs.engine.Engine.bring_all.Given as goal
 

@@ -4,7 +4,7 @@ use Rattle.std.proofs.lemmas.Option.{get_or_from_slice_get}
 use Rattle.qtc_events.specs.declared.calls.Call.TheVariants.{Fail}
 use Rattle.qtc_future.specs.declared.requests.Request.TheVariants.{Fail as AskFail}
 use Rattle.qtc_shared.specs.Passes.{IsHold, PassState, Stays}
-use Rattle.qtc_kernel.specs.Crews.{IsFailedCall, IsOwnCall, KnowsEnd, work_of}
+use Rattle.qtc_kernel.specs.EngineParts.{IsFailedCall, IsOwnCall, KnowsEnd, work_of}
 use Rattle.qtc_kernel.specs.Turns.{HasMade}
 use Rattle.qtc_kernel.specs.Working.{IsLeaving}
 use Rattle.qtc_kernel.specs.Workload.{item_at}
@@ -21,23 +21,23 @@ pub returns-clause-desk : goal.returns-clause-desk
 returns-clause-desk g c =
     let value = g.F.ItemFn.value in
     let called = g.F.ItemFn.called in
-    let crew = c.args.self.now in
-    let work = work_of value crew in
-    let leaving = subst (λ d. IsLeaving value called crew d c.args.piece) (sym c.desk.view_is) c.requires.desk in
+    let parts = c.args.self.now in
+    let work = work_of value parts in
+    let leaving = subst (λ d. IsLeaving value called parts d c.args.piece) (sym c.desk.view_is) c.requires.desk in
     let old = c.desk.inside.pass in
     let mid = c.fail.new.pass in
     let new = c.gather.new.pass in
     let hold = c.fail.ensures in
     let calls = called c.desk.inside.function in
     let there : slice_get c.self.inside.items.now c.args.index ≡ Some c.unwrap-bad.result.now = sym c.get.ensures ∙ ap option_copied c.unwrap-bad.ensures in
-    let items : c.self.inside.items.now ≡ crew.items = c.self.invariant.items ∙ ap (λ it. it.items) c.self.view_is in
+    let items : c.self.inside.items.now ≡ parts.items = c.self.invariant.items ∙ ap (λ it. it.items) c.self.view_is in
     let item : item_at work c.args.index ≡ c.in-Ok.item =
     ap (λ (xs : List (List ℕ)). slice_index_or xs c.args.index []) (sym items) ∙ get_or_from_slice_get c.self.inside.items.now c.args.index c.unwrap-bad.result.now [] there ∙ sym c.in-Ok.ensures
     in
     let bad : IsFailedCall work calls (record { index = c.args.index; item = item_at work c.args.index }) = subst (λ d. IsFailedCall work (called d.function) (record { index = c.args.index; item = item_at work c.args.index })) (sym c.desk.view_is) c.requires.bad in
     let failing = subst (λ it. IsFailedCall work calls (record { index = c.args.index; item = it })) item bad in
     let made : HasCalled old mid (Fail c.args.index) c.in-Ok.item = record { journal = hold.journal; met = hold.met; future = hold.done.future; pass = hold.pass } in
-    desk_leaves value called crew _ _ c.args.piece leaving
+    desk_leaves value called parts _ _ c.args.piece leaving
     (record { of = refl; badge = refl; number = refl; given = refl; on = goes_further old mid new (called_on old mid (Fail c.args.index) c.in-Ok.item made refl) (stayed_on mid new c.gather.ensures.pass); same_value = refl; turn = refl })
     (subst (All (IsOwnCall work c.desk.inside.lacks calls)) (sym (stayed_own mid new c.gather.ensures.pass))
     (called_own old mid (Fail c.args.index) c.in-Ok.item made (IsOwnCall work c.desk.inside.lacks calls) leaving.own
@@ -47,14 +47,14 @@ returns-clause-desk g c =
 pub returns-clause-turn : goal.returns-clause-turn
 returns-clause-turn g c =
     let value = g.F.ItemFn.value in
-    let crew = c.args.self.now in
-    let work = work_of value crew in
+    let parts = c.args.self.now in
+    let work = work_of value parts in
     let old = c.desk.inside.pass in
     let mid = c.fail.new.pass in
     let new = c.gather.new.pass in
     let hold = c.fail.ensures in
     let there : slice_get c.self.inside.items.now c.args.index ≡ Some c.unwrap-bad.result.now = sym c.get.ensures ∙ ap option_copied c.unwrap-bad.ensures in
-    let items : c.self.inside.items.now ≡ crew.items = c.self.invariant.items ∙ ap (λ it. it.items) c.self.view_is in
+    let items : c.self.inside.items.now ≡ parts.items = c.self.invariant.items ∙ ap (λ it. it.items) c.self.view_is in
     let item : item_at work c.args.index ≡ c.in-Ok.item =
     ap (λ (xs : List (List ℕ)). slice_index_or xs c.args.index []) (sym items) ∙ get_or_from_slice_get c.self.inside.items.now c.args.index c.unwrap-bad.result.now [] there ∙ sym c.in-Ok.ensures
     in

@@ -2,7 +2,7 @@ use Rattle.std.proofs.Common.{◌≡◌, ◌∷◌, ◌++◌, [], ℕ, List, IfS
 use Rattle.std.proofs.lemmas.List.{length-map}
 use Rattle.std.proofs.lemmas.List.Elements.{All-pop}
 use Rattle.qtc_shared.specs.Passes.{PassState}
-use Rattle.qtc_kernel.specs.Crews.{DeskState, IsCrew, IsDesk, work_of}
+use Rattle.qtc_kernel.specs.EngineParts.{DeskState, FitTogether, IsDesk, work_of}
 use Rattle.qtc_kernel.specs.Endings.{functions_at}
 use Rattle.qtc_kernel.specs.Runs.{times_called}
 use Rattle.qtc_kernel.specs.WorkedOut.{AreContinued, IsWorkedOut, calls_of}
@@ -13,7 +13,7 @@ use Rattle.qtc_kernel.proofs.engine.Engine.finish.Goals as goal
 
 pub unwrap-first-requires : goal.unwrap-first-requires
 unwrap-first-requires g c =
-    let fits = subst (IsCrew g.F.ItemFn.value) c.self.view_is c.self.invariant.crew in
+    let fits = subst (FitTogether g.F.ItemFn.value) c.self.view_is c.self.invariant.parts in
     c.pop.ensures.variant.1 (omega (arith, c.requires.desks.count, fits.limits.one))
 
 pub work_off-requires-clause-first : goal.work_off-requires-clause-first
@@ -34,19 +34,19 @@ pub returns-clause-worked : goal.returns-clause-worked
 returns-clause-worked g c =
     let value = g.F.ItemFn.value in
     let called = g.F.ItemFn.called in
-    let crew = c.args.self.now in
-    let fits = subst (IsCrew value) c.self.view_is c.self.invariant.crew in
+    let parts = c.args.self.now in
+    let fits = subst (FitTogether value) c.self.view_is c.self.invariant.parts in
     let first = c.work_off.new.first in
     let others = c.work_off.new.others.items in
     let calls = c.in_ok-calls.calls in
     let long = popped_length c.args.desks.items c.pop.new.self.items c.pop.result c.unwrap-first.result c.pop.ensures.items c.unwrap-first.ensures in
     let same : length others ≡ length c.pop.new.self.items = sym (length-map others (λ desk. desk.function)) ∙ ap length c.work_off.ensures.functions ∙ length-map c.pop.new.self.items (λ desk. desk.function) in
-    let count : length (first ∷ others) ≡ crew.counter.workers = omega (arith, long, same, c.requires.desks.count) in
+    let count : length (first ∷ others) ≡ parts.counter.workers = omega (arith, long, same, c.requires.desks.count) in
     let are = ok_from _ c.calls_of.result calls c.in_ok-calls.was c.calls_of.ensures in
-    worked_out value called crew fits first others c.settle-pass.result.0.known c.settle-pass.ensures.settled count
+    worked_out value called parts fits first others c.settle-pass.result.0.known c.settle-pass.ensures.settled count
     c.work_off.ensures.first c.work_off.ensures.others c.work_off.ensures.met c.work_off.ensures.over
     (c.none_lacks-had_memory.ensures.first c.if-not-had_memory.false) (c.none_lacks-had_memory.ensures.others c.if-not-had_memory.false)
-    calls (λ index. ap (λ list. times_called list index) (are ∙ ap (calls_of called) (c.settle-pass.ensures.functions c.if-not-has_room.false ∙ ap (λ fs. fs ++ functions_at (others ++ first ∷ [])) c.new-functions.ensures.items)) ∙ calls_turned value called crew first others index)
+    calls (λ index. ap (λ list. times_called list index) (are ∙ ap (calls_of called) (c.settle-pass.ensures.functions c.if-not-has_room.false ∙ ap (λ fs. fs ++ functions_at (others ++ first ∷ [])) c.new-functions.ensures.items)) ∙ calls_turned value called parts first others index)
 
 pub returns-clause-functions : goal.returns-clause-functions
 returns-clause-functions g c =

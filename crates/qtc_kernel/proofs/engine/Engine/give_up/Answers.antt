@@ -4,7 +4,7 @@ use Rattle.qtc_events.specs.declared.calls.Call.TheVariants.{Cancel}
 use Rattle.qtc_future.specs.declared.requests.Request.TheVariants.{Cancel as AskCancel}
 use Rattle.qtc_shared.specs.Journals.{calls_by}
 use Rattle.qtc_shared.specs.Passes.{PassState}
-use Rattle.qtc_kernel.specs.Crews.{IsOwnCall, work_of}
+use Rattle.qtc_kernel.specs.EngineParts.{IsOwnCall, work_of}
 use Rattle.qtc_kernel.specs.Turns.{HasMade}
 use Rattle.qtc_kernel.specs.Working.{IsLeaving}
 use Rattle.qtc_kernel.proofs.AtDesks.{desk_leaves, own_cancel, own_more}
@@ -20,9 +20,9 @@ pub returns-clause-desk : goal.returns-clause-desk
 returns-clause-desk g c =
     let value = g.F.ItemFn.value in
     let called = g.F.ItemFn.called in
-    let crew = c.args.self.now in
-    let work = work_of value crew in
-    let leaving = subst (λ d. IsLeaving value called crew d c.args.piece) (sym c.desk.view_is) c.requires in
+    let parts = c.args.self.now in
+    let work = work_of value parts in
+    let leaving = subst (λ d. IsLeaving value called parts d c.args.piece) (sym c.desk.view_is) c.requires in
     let old = c.desk.inside.pass in
     let mid = c.cancel.new.pass in
     let new = c.gather.new.pass in
@@ -33,7 +33,7 @@ returns-clause-desk g c =
     All-weaker (IsOwnCall work c.desk.inside.lacks calls) (IsOwnCall work true calls)
     (λ logged. own_more work c.desk.inside.lacks true calls calls logged (λ lacks. refl) (λ index. omega arith)) (calls_by old.number old.known) leaving.own
     in
-    desk_leaves value called crew _ _ c.args.piece leaving
+    desk_leaves value called parts _ _ c.args.piece leaving
     (record { of = refl; badge = refl; number = refl; given = refl; on = goes_further old mid new (called_on old mid Cancel [] made refl) (stayed_on mid new c.gather.ensures.pass); same_value = refl; turn = refl })
     (subst (All (IsOwnCall work true calls)) (sym (stayed_own mid new c.gather.ensures.pass))
     (called_own old mid Cancel [] made (IsOwnCall work true calls) before (λ logged call item. own_cancel work calls logged call)))

@@ -1,6 +1,6 @@
 use Rattle.std.proofs.Common.{sym, subst}
 use Rattle.qtc_shared.specs.Journals.{BeginsWith}
-use Rattle.qtc_kernel.specs.Crews.{IsBoard, reporter}
+use Rattle.qtc_kernel.specs.EngineParts.{IsBoard, reporter}
 use Rattle.qtc_kernel.specs.Working.{range_in}
 use Rattle.qtc_kernel.proofs.Boards.{board_stays, handed_ok}
 use Rattle.qtc_kernel.proofs.Passing.{stayed_on}
@@ -8,7 +8,7 @@ use Rattle.qtc_kernel.proofs.engine.Engine.hand_in.Goals as goal
 
 pub put-requires-clause-fits : goal.put-requires-clause-fits
 put-requires-clause-fits g c κs within =
-    subst (λ crew. IsBoard g.F.ItemFn.value crew c.report-told.new.board.tally c.meet.new.other) (sym c.self.view_is)
+    subst (λ parts. IsBoard g.F.ItemFn.value parts c.report-told.new.board.tally c.meet.new.other) (sym c.self.view_is)
     (board_stays g.F.ItemFn.value c.args.self.now c.report-told.new.board.tally c.report-told.new.board.pass c.meet.new.other c.report-told.ensures.board c.meet.ensures.other)
 
 pub returns-clause-ok : goal.returns-clause-ok

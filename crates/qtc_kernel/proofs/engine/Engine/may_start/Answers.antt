@@ -15,7 +15,7 @@ returns-clause-desk g c =
     let seat = c.is_open-is_open.ensures in
     let pass = c.is_canceled-is_canceled.ensures in
     desk_looked g.F.ItemFn.value g.F.ItemFn.called c.args.self.now c.args.desk.now _ c.requires.desk
-    (seat.of ∙ c.self.invariant.counter ∙ ap (λ crew. crew.counter) c.self.view_is ∙ sym c.requires.desk.seated.counter)
+    (seat.of ∙ c.self.invariant.counter ∙ ap (λ parts. parts.counter) c.self.view_is ∙ sym c.requires.desk.seated.counter)
     (ap (λ (w : Worker). w.number) seat.load ∙ ap (λ d. d.seat.worker.number) is)
     (ap (λ (w : Worker). w.claims) seat.load ∙ ap (λ d. d.seat.worker.claims) is)
     (subst (λ p. HasLooked p c.is_canceled-is_canceled.new.pass) (ap (λ d. d.pass) is) (looked_once c.desk.inside.pass c.is_canceled-is_canceled.new.pass pass.0 pass.1))
@@ -24,11 +24,11 @@ returns-clause-desk g c =
 pub returns-clause-may_start : goal.returns-clause-may_start
 returns-clause-may_start g c =
     let is = c.desk.view_is in
-    let crew = c.args.self.now in
+    let parts = c.args.self.now in
     let seat = c.is_open-is_open.ensures in
     let pass = c.is_canceled-is_canceled.ensures in
-    let n : c.self.inside.counter.n ≡ crew.counter.n = ap (λ (id : CounterId). id.n) (c.self.invariant.counter ∙ ap (λ it. it.counter) c.self.view_is) in
-    let workers : c.self.inside.workers ≡ crew.counter.workers = c.self.invariant.workers ∙ ap (λ it. it.counter.workers) c.self.view_is in
+    let n : c.self.inside.counter.n ≡ parts.counter.n = ap (λ (id : CounterId). id.n) (c.self.invariant.counter ∙ ap (λ it. it.counter) c.self.view_is) in
+    let workers : c.self.inside.workers ≡ parts.counter.workers = c.self.invariant.workers ∙ ap (λ it. it.counter.workers) c.self.view_is in
     let answer : Bool = (c.is_open-is_open.result && not c.is_canceled-is_canceled.result) && nat_lt c.count-active.result c.self.inside.workers in
     record {
       counter = seat.load ∙ ap (λ d. after_load c.is_open-is_open.new.seat.worker.seen d.seat.worker) is;
@@ -36,8 +36,8 @@ returns-clause-may_start g c =
       future = subst (λ d. IsLook d.pass c.is_canceled-is_canceled.new.pass pass.0) is pass.1;
       count = c.count-active.result;
       active = c.count-active.ensures.load ∙ ap (λ d. record d.badge { seen = d.badge.seen ++ c.count-active.result ∷ [] }) is;
-      exactly = subst (λ b. IsTrue b ↔ ((c.is_open-is_open.new.seat.worker.seen < crew.counter.n) × (pass.0.canceled ≡ false) × (c.count-active.result < crew.counter.workers))) (sym c.may_further_start.ensures)
-          (subst (λ w. IsTrue answer ↔ ((c.is_open-is_open.new.seat.worker.seen < crew.counter.n) × (pass.0.canceled ≡ false) × (c.count-active.result < w))) workers
+      exactly = subst (λ b. IsTrue b ↔ ((c.is_open-is_open.new.seat.worker.seen < parts.counter.n) × (pass.0.canceled ≡ false) × (c.count-active.result < parts.counter.workers))) (sym c.may_further_start.ensures)
+          (subst (λ w. IsTrue answer ↔ ((c.is_open-is_open.new.seat.worker.seen < parts.counter.n) × (pass.0.canceled ≡ false) × (c.count-active.result < w))) workers
           (subst (λ m. IsTrue answer ↔ ((c.is_open-is_open.new.seat.worker.seen < m) × (pass.0.canceled ≡ false) × (c.count-active.result < c.self.inside.workers))) n
           (may_exactly c.is_open-is_open.result c.is_canceled-is_canceled.result c.count-active.result c.self.inside.workers (c.is_open-is_open.new.seat.worker.seen < c.self.inside.counter.n) pass.0 seat.left pass.2)));
     }

@@ -2,7 +2,7 @@ use Rattle.std.proofs.Common.{ℕ, List, ap, refl, sym, subst}
 use Rattle.qtc_shared.specs.Journals.{BeginsWith}
 use Rattle.qtc_shared.specs.Passes.{PassState}
 use Rattle.qtc_shared.proofs.Prefixes.{begins_same}
-use Rattle.qtc_kernel.specs.Crews.{IsDesk}
+use Rattle.qtc_kernel.specs.EngineParts.{IsDesk}
 use Rattle.qtc_kernel.proofs.AtDesks.{desk_on}
 use Rattle.qtc_kernel.proofs.Passing.{stayed_on, stayed_own}
 use Rattle.qtc_kernel.proofs.engine.Engine.meet_desk.Goals as goal

@@ -1,7 +1,7 @@
 use Rattle.std.proofs.Common.{◌<◌, ap, length, rules, arith, ◌∙◌}
 use Rattle.std.proofs.lemmas.List.Elements.{All-set, AllWithin-more_set}
 use Rattle.std.proofs.Math.Seq.{map-set_same}
-use Rattle.qtc_kernel.specs.Crews.{IsDesk}
+use Rattle.qtc_kernel.specs.EngineParts.{IsDesk}
 use Rattle.qtc_kernel.specs.Endings.{IsMet}
 use Rattle.qtc_kernel.proofs.AtDesks.{met_further}
 use Rattle.qtc_kernel.proofs.Passing.{goes_further}

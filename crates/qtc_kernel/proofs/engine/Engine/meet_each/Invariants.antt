@@ -1,7 +1,7 @@
 use Rattle.std.proofs.Common.{◌≡◌, All, length}
 use Rattle.std.specs.List.{AllWithin}
 use Rattle.qtc_shared.specs.Journals.{calls_by}
-use Rattle.qtc_kernel.specs.Crews.{IsDesk}
+use Rattle.qtc_kernel.specs.EngineParts.{IsDesk}
 use Rattle.qtc_kernel.specs.Endings.{IsMet, functions_at}
 use Rattle.qtc_kernel.specs.Turns.{GoesOn}
 use Rattle.qtc_kernel.proofs.engine.Engine.meet_each.Given as goal

@@ -1,6 +1,6 @@
 use Rattle.std.proofs.Common.{ap, sym, subst, ◌∙◌}
 use Rattle.qtc_claim.specs.Counter.{IsNew}
-use Rattle.qtc_kernel.specs.Crews.{IsCrew}
+use Rattle.qtc_kernel.specs.EngineParts.{FitTogether}
 use Rattle.qtc_kernel.proofs.Opening.{made_board, made_engine, made_fits}
 use Rattle.qtc_kernel.proofs.engine.Engine.new.Goals as goal
 
@@ -18,16 +18,16 @@ invariant_of-engine g c =
     c.in_ok-future.field-0.future c.in_ok-future.field-0.passes.items c.in_ok-future.field-0.reporter c.in_ok-future.field-0.caller c.in_ok-future.ensures
     c.in_ok-counter.counter c.in_ok-counter.seats.items c.in_ok-counter.tally (subst (λ n. IsNew n plan.workers c.in_ok-counter.counter c.in_ok-counter.seats.items c.in_ok-counter.tally) c.len.ensures c.in_ok-counter.ensures) c.in_ok-active.active c.in_ok-active.badges.items c.in_ok-active.ensures in
     let terms = c.in_ok-future.ensures.terms_are in
-    let crew = c.in_ok-board.ensures in
+    let parts = c.in_ok-board.ensures in
     record {
-      crew = subst (IsCrew g.F.ItemFn.value) (sym crew) fits;
-      workers = sym c.in_ok-counter.ensures.for_workers ∙ sym (ap (λ it. it.counter.workers) crew);
-      counter = sym (ap (λ it. it.counter) crew);
-      future = sym (ap (λ it. it.future) crew);
-      active = sym (ap (λ it. it.active) crew);
-      items = sym (ap (λ it. it.items) crew);
-      sizes = sym (ap (λ it. it.sizes) crew);
-      filter = sym (ap (λ t. t.filter) terms) ∙ sym (ap (λ it. it.future.terms.filter) crew);
+      parts = subst (FitTogether g.F.ItemFn.value) (sym parts) fits;
+      workers = sym c.in_ok-counter.ensures.for_workers ∙ sym (ap (λ it. it.counter.workers) parts);
+      counter = sym (ap (λ it. it.counter) parts);
+      future = sym (ap (λ it. it.future) parts);
+      active = sym (ap (λ it. it.active) parts);
+      items = sym (ap (λ it. it.items) parts);
+      sizes = sym (ap (λ it. it.sizes) parts);
+      filter = sym (ap (λ t. t.filter) terms) ∙ sym (ap (λ it. it.future.terms.filter) parts);
     }
 
 pub returns : goal.returns
@@ -36,4 +36,4 @@ returns g c =
     made_engine g.F.ItemFn.value g.F.ItemFn.called plan.kind plan.items.now plan.workers plan.blocks c.args.functions.items c.requires plan.cancel_after plan.suspend_after
     c.in_ok-future.field-0.future c.in_ok-future.field-0.passes.items c.in_ok-future.field-0.reporter c.in_ok-future.field-0.caller c.in_ok-future.ensures
     c.in_ok-counter.counter c.in_ok-counter.seats.items c.in_ok-counter.tally (subst (λ n. IsNew n plan.workers c.in_ok-counter.counter c.in_ok-counter.seats.items c.in_ok-counter.tally) c.len.ensures c.in_ok-counter.ensures) c.in_ok-active.active c.in_ok-active.badges.items c.in_ok-active.ensures
-    c.in_ok-board.board.key.crew c.in_ok-desks.desks.items c.in_ok-board.ensures c.in_ok-desks.ensures
+    c.in_ok-board.board.key.parts c.in_ok-desks.desks.items c.in_ok-board.ensures c.in_ok-desks.ensures

@@ -1,10 +1,10 @@
 use Rattle.std.proofs.Common.{true}
-use Rattle.qtc_kernel.specs.Crews.{crew_with}
+use Rattle.qtc_kernel.specs.EngineParts.{parts_with}
 use Rattle.qtc_kernel.proofs.engine.Engine.new.Given as goal
 
 -- which engine the board is of
 abbrev pub ghosts-placed : goal.ghosts-placed
 ghosts-placed g a = record {
-  key = record { marker = record {}; crew = crew_with a.counter.now a.future.now a.active.now a.items.now a.functions.now.items a.sizes.now };
+  key = record { marker = record {}; parts = parts_with a.counter.now a.future.now a.active.now a.items.now a.functions.now.items a.sizes.now };
   named = true;
 }

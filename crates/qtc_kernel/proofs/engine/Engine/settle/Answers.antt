@@ -12,14 +12,14 @@ use Rattle.qtc_kernel.proofs.engine.Engine.settle.Goals as goal
 pub returns-clause-settled : goal.returns-clause-settled
 returns-clause-settled g c =
     let value = g.F.ItemFn.value in
-    let crew = c.args.self.now in
+    let parts = c.args.self.now in
     let first = desk_state c.first.inside in
     let others = c.args.others.items in
     let before = c.args.board.now.tally in
     let known = c.meet.new.pass.known in
     let last = c.end.new.tally in
-    subst (λ d. AreSettled value crew d others c.bring_all-has_room.new.pass.known) c.first.view_is
-    (subst (AreSettled value crew first others) (sym c.bring_all-has_room.ensures.pass.0)
+    subst (λ d. AreSettled value parts d others c.bring_all-has_room.new.pass.known) c.first.view_is
+    (subst (AreSettled value parts first others) (sym c.bring_all-has_room.ensures.pass.0)
     (record {
       journal = c.finish-has_room.ensures.journal;
       met = c.finish-has_room.ensures.met;
@@ -28,10 +28,10 @@ returns-clause-settled g c =
       others_met = c.bring_all-has_room.ensures.gathered.met;
       before = before;
       board = c.meet.new.other;
-      board_is = board_stays value crew before c.args.board.now.pass c.meet.new.other c.requires.board c.meet.ensures.other;
+      board_is = board_stays value parts before c.args.board.now.pass c.meet.new.other c.requires.board c.meet.ensures.other;
       board_knows = sym c.meet.ensures.one;
       tally = last;
-      gathered = subst (IsGathered crew.counter) (sym c.end.ensures.same) c.bring_all-has_room.ensures.apart;
+      gathered = subst (IsGathered parts.counter) (sym c.end.ensures.same) c.bring_all-has_room.ensures.apart;
       knows = subst (λ (t : TallyState). HasAll t → KnowsClaims t) (sym c.end.ensures.same) c.end.ensures.claims;
       of = of_all first others known before c.gather_seat.new.self c.bring_all-has_room.new.tally last c.gather_seat.ensures.workers c.bring_all-has_room.ensures.gathered c.end.ensures.same;
       workers = workers_all first others known before c.gather_seat.new.self c.bring_all-has_room.new.tally last c.gather_seat.ensures.workers c.bring_all-has_room.ensures.gathered c.end.ensures.same;
@@ -62,12 +62,12 @@ returns-clause-pass g c = (
 pub returns-clause-board : goal.returns-clause-board
 returns-clause-board g c =
     let value = g.F.ItemFn.value in
-    let crew = c.args.self.now in
+    let parts = c.args.self.now in
     let first = desk_state c.first.inside in
     let others = c.args.others.items in
     let before = c.args.board.now.tally in
     let known = c.meet.new.pass.known in
-    board_takes value crew before c.end.new.tally c.meet.new.other []
-    (board_stays value crew before c.args.board.now.pass c.meet.new.other c.requires.board c.meet.ensures.other)
+    board_takes value parts before c.end.new.tally c.meet.new.other []
+    (board_stays value parts before c.args.board.now.pass c.meet.new.other c.requires.board c.meet.ensures.other)
     (of_all first others known before c.gather_seat.new.self c.bring_all-has_room.new.tally c.end.new.tally c.gather_seat.ensures.workers c.bring_all-has_room.ensures.gathered c.end.ensures.same)
     (pieces_all first others known before c.gather_seat.new.self c.bring_all-has_room.new.tally c.end.new.tally c.gather_seat.ensures.workers c.bring_all-has_room.ensures.gathered c.end.ensures.same ∙ sym (append-nil before.pieces))

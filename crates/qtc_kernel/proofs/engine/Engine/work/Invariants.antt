@@ -1,5 +1,5 @@
 use Rattle.std.proofs.Common.{◌≡◌, true}
-use Rattle.qtc_kernel.specs.Crews.{IsDesk}
+use Rattle.qtc_kernel.specs.EngineParts.{IsDesk}
 use Rattle.qtc_kernel.specs.WorkedOut.{Continues}
 use Rattle.qtc_kernel.proofs.engine.Engine.work.Given as goal
 

@@ -1,5 +1,5 @@
 use Rattle.std.proofs.Common.{◌≤◌, ◌⊎◌, refl, sym, subst}
-use Rattle.qtc_kernel.specs.Crews.{HasMetEnd, IsDesk}
+use Rattle.qtc_kernel.specs.EngineParts.{HasMetEnd, IsDesk}
 use Rattle.qtc_kernel.specs.Desks.{desk_state}
 use Rattle.qtc_kernel.specs.Turns.{GoesOn}
 use Rattle.qtc_kernel.proofs.AtDesks.{desk_on}
@@ -17,7 +17,7 @@ returns-clause-first g c =
 
 pub returns-clause-over : goal.returns-clause-over
 returns-clause-over g c =
-    let crew = c.args.self.now in
-    subst (λ d. (crew.counter.n ≤ d.seat.worker.seen) ⊎ HasMetEnd c.meet_each.new.pass) (sym c.first.view_is)
-    (last_over g.F.ItemFn.value g.F.ItemFn.called crew _ c.work.new.desk c.work.result c.work.ensures.turn c.meet_each.new.pass
+    let parts = c.args.self.now in
+    subst (λ d. (parts.counter.n ≤ d.seat.worker.seen) ⊎ HasMetEnd c.meet_each.new.pass) (sym c.first.view_is)
+    (last_over g.F.ItemFn.value g.F.ItemFn.called parts _ c.work.new.desk c.work.result c.work.ensures.turn c.meet_each.new.pass
     (subst (λ d. GoesOn d.pass c.meet_each.new.pass) c.first.view_is c.meet_each.ensures.pass))

@@ -4,7 +4,7 @@ use Rattle.qtc_ops.specs.contracts.op_fns.OpFnItemFn.TheImpl.{value-value, calle
 use Rattle.qtc_ops.specs.ItemValue.{ItemValue}
 use Rattle.qtc_ops.specs.Operations.{value_of}
 use Rattle.qtc_ops.specs.declared.op_fns.OpFn.{OpFn}
-use Rattle.qtc_kernel.specs.Crews.{value_by}
+use Rattle.qtc_kernel.specs.EngineParts.{value_by}
 use Rattle.qtc_kernel.specs.Driving.{AreSizes, is_filter}
 use Rattle.qtc_kernel.specs.Workload.{Suits, workload}
 use Rattle.qtc_kernel.proofs.tests.engines.plan_over.Goals as goal

@@ -1,6 +1,6 @@
 use Rattle.std.proofs.Common.{◌≡◌, ◌∷◌, ◌++◌, ◌∙◌, ℕ, List, [], ap, sym, subst, refl, arith}
 use Rattle.std.proofs.lemmas.List.Elements.{All-cons, All-nil}
-use Rattle.qtc_kernel.specs.Crews.{IsPlanned}
+use Rattle.qtc_kernel.specs.EngineParts.{IsPlanned}
 use Rattle.qtc_kernel.specs.Driving.{AreSizes}
 use Rattle.qtc_kernel.specs.declared.kinds.Kind.TheVariants.{Filtered}
 use Rattle.qtc_kernel.proofs.tests.gates.filter_engine.Goals as goal

@@ -27,7 +27,7 @@ use Rattle.qtc_kernel.specs.Workload.{Suits, Workload, first_bad, workload}
 
 -- its counter, its future and its count of workers that are in, the items, the functions of its workers as they began, and
 -- the sizes of its blocks
-pub record Crew (F : Type 0) : Type 0 where
+pub record EngineParts (F : Type 0) : Type 0 where
   pub counter : CounterId
   pub future : FutureId
   pub active : CountId
@@ -36,8 +36,8 @@ pub record Crew (F : Type 0) : Type 0 where
   pub sizes : List ℕ
 
 -- a name that stands for any engine, for a board that nobody placed
-abbrev pub no_crew : {F : Type 0} → Crew F
-no_crew = record {
+abbrev pub no_parts : {F : Type 0} → EngineParts F
+no_parts = record {
   counter = record { table = no_table; n = 0; workers = 0 };
   future = record { table = no_table; terms = no_terms };
   active = record { table = no_table; workers = 0 };
@@ -46,8 +46,8 @@ no_crew = record {
   sizes = [];
 }
 
-abbrev pub crew_with : {F : Type 0} → CounterId → FutureId → CountId → List (List ℕ) → List F → List ℕ → Crew F
-crew_with counter future active items functions sizes = record {
+abbrev pub parts_with : {F : Type 0} → CounterId → FutureId → CountId → List (List ℕ) → List F → List ℕ → EngineParts F
+parts_with counter future active items functions sizes = record {
   counter = counter;
   future = future;
   active = active;
@@ -57,8 +57,8 @@ crew_with counter future active items functions sizes = record {
 }
 
 -- the number of the pass that reports for all workers
-abbrev pub reporter : {F : Type 0} → Crew F → ℕ
-reporter crew = crew.counter.workers
+abbrev pub reporter : {F : Type 0} → EngineParts F → ℕ
+reporter parts = parts.counter.workers
 
 module _ {F : Type 0} (value : F → List ℕ → ItemValue) where
   -- what the functions make of an item, which is the same for all
@@ -67,17 +67,17 @@ module _ {F : Type 0} (value : F → List ℕ → ItemValue) where
   value_by (function ∷ functions) = value function
 
   -- what the engine works on
-  abbrev pub work_of : Crew F → Workload
-  work_of crew = workload crew.items (value_by crew.functions)
+  abbrev pub work_of : EngineParts F → Workload
+  work_of parts = workload parts.items (value_by parts.functions)
 
   -- its parts fit each other
-  pub record IsCrew (crew : Crew F) : Type 0 where
-    pub indexes : crew.counter.n ≡ length crew.items
-    pub limits : IsWithinLimits crew.counter.n crew.counter.workers
-    pub active : crew.active.workers ≡ crew.counter.workers
-    pub makers : crew.future.terms.makers ≡ crew.counter.workers + 1
-    pub sizes : AreSizes crew.sizes
-    pub suits : Suits crew.future.terms.filter (work_of crew)
+  pub record FitTogether (parts : EngineParts F) : Type 0 where
+    pub indexes : parts.counter.n ≡ length parts.items
+    pub limits : IsWithinLimits parts.counter.n parts.counter.workers
+    pub active : parts.active.workers ≡ parts.counter.workers
+    pub makers : parts.future.terms.makers ≡ parts.counter.workers + 1
+    pub sizes : AreSizes parts.sizes
+    pub suits : Suits parts.future.terms.filter (work_of parts)
 
 -- ---- journals
 
@@ -162,11 +162,11 @@ AreHandedIn n number claims pass =
     AreReported n number claims pass.known ⊎ HasMetEnd pass ⊎ IsTrue (list_any (is_strange number) pass.known)
 
 -- as a desk is at first
-pub record IsNewDesk {F : Type 0} (crew : Crew F) (number : ℕ) (desk : DeskState F) : Type 0 where
-  pub seat : desk.seat ≡ record { of = crew.counter; worker = new_worker number }
-  pub pass : desk.pass ≡ pass_at crew.future number opening
-  pub function : slice_get crew.functions number ≡ Some desk.function
-  pub badge : desk.badge ≡ new_badge crew.active
+pub record IsNewDesk {F : Type 0} (parts : EngineParts F) (number : ℕ) (desk : DeskState F) : Type 0 where
+  pub seat : desk.seat ≡ record { of = parts.counter; worker = new_worker number }
+  pub pass : desk.pass ≡ pass_at parts.future number opening
+  pub function : slice_get parts.functions number ≡ Some desk.function
+  pub badge : desk.badge ≡ new_badge parts.active
   pub lacks : desk.lacks ≡ false
 
 -- desks of these seats, passes, badges and functions, as they stand beside each other
@@ -185,23 +185,23 @@ desks_with (seat ∷ seats) (pass ∷ passes) (badge ∷ badges) (function ∷ f
 desks_with _ _ _ _ = []
 
 -- a desk of the engine: what its pass knows, and what it claimed
-pub record IsSeated {F : Type 0} (value : F → List ℕ → ItemValue) (crew : Crew F) (desk : DeskState F) : Type 0 where
-  pub counter : desk.seat.of ≡ crew.counter
-  pub future : desk.pass.of ≡ crew.future
-  pub badge : desk.badge.of ≡ crew.active
+pub record IsSeated {F : Type 0} (value : F → List ℕ → ItemValue) (parts : EngineParts F) (desk : DeskState F) : Type 0 where
+  pub counter : desk.seat.of ≡ parts.counter
+  pub future : desk.pass.of ≡ parts.future
+  pub badge : desk.badge.of ≡ parts.active
   pub childless : desk.pass.children ≡ 0
   pub numbered : desk.pass.number ≡ desk.seat.worker.number
-  pub below : desk.seat.worker.number < crew.counter.workers
-  pub valued : value desk.function ≡ value_by value crew.functions
+  pub below : desk.seat.worker.number < parts.counter.workers
+  pub valued : value desk.function ≡ value_by value parts.functions
   pub opened : BeginsWith desk.pass.known opening
-  pub turn : desk.turn ≡ length (given_at crew.counter.n desk) % length crew.sizes
-  pub sizes : map (λ claim. claim.size) (given_at crew.counter.n desk)
-      ≡ in_turn crew.sizes (length (given_at crew.counter.n desk))
+  pub turn : desk.turn ≡ length (given_at parts.counter.n desk) % length parts.sizes
+  pub sizes : map (λ claim. claim.size) (given_at parts.counter.n desk)
+      ≡ in_turn parts.sizes (length (given_at parts.counter.n desk))
 
 -- the calls of its own pass
-abbrev pub AreOwnCalls : {F : Type 0} → (F → List ℕ → ItemValue) → (F → List ℕ) → Crew F → DeskState F → Type 0
-AreOwnCalls value called crew desk =
-    All (IsOwnCall (work_of value crew) desk.lacks (called desk.function)) (calls_by desk.pass.number desk.pass.known)
+abbrev pub AreOwnCalls : {F : Type 0} → (F → List ℕ → ItemValue) → (F → List ℕ) → EngineParts F → DeskState F → Type 0
+AreOwnCalls value called parts desk =
+    All (IsOwnCall (work_of value parts) desk.lacks (called desk.function)) (calls_by desk.pass.number desk.pass.known)
 
 -- a claim of which a front at most was called: the pass knows an end, and no report of this number covers any of it
 pub record IsLeft (n number : ℕ) (pass : PassState (List ℕ)) (claim : Addition) : Type 0 where
@@ -211,15 +211,15 @@ pub record IsLeft (n number : ℕ) (pass : PassState (List ℕ)) (claim : Additi
 
 -- what each desk of an engine keeps, whatever its worker does: each claim that gave a piece was worked on and handed
 -- in, but for one at most that was left where an end stands
-pub record IsDesk {F : Type 0} (value : F → List ℕ → ItemValue) (called : F → List ℕ) (crew : Crew F)
+pub record IsDesk {F : Type 0} (value : F → List ℕ → ItemValue) (called : F → List ℕ) (parts : EngineParts F)
     (desk : DeskState F) : Type 0 where
-  pub seated : IsSeated value crew desk
-  pub own : AreOwnCalls value called crew desk
+  pub seated : IsSeated value parts desk
+  pub own : AreOwnCalls value called parts desk
   pub left : List Addition
   pub one : length left ≤ 1
-  pub left_are : All (IsLeft crew.counter.n (reporter crew) desk.pass) left
-  pub worked : AreWorkedOn crew.counter.n (given_at crew.counter.n desk) left (called desk.function)
-  pub handed : AreHandedIn crew.counter.n (reporter crew) (given_at crew.counter.n desk) desk.pass
+  pub left_are : All (IsLeft parts.counter.n (reporter parts) desk.pass) left
+  pub worked : AreWorkedOn parts.counter.n (given_at parts.counter.n desk) left (called desk.function)
+  pub handed : AreHandedIn parts.counter.n (reporter parts) (given_at parts.counter.n desk) desk.pass
 
 -- the desk is as it was, but for what its seat and its pass saw
 pub record IsSameButLooks {F : Type 0} (old new : DeskState F) : Type 0 where
@@ -244,14 +244,14 @@ pub record IsOfPiece (work : Workload) (n : ℕ) (sizes : List ℕ) (pieces : Li
 
 -- what is true of the tally and of the pass beside it whenever no worker has them in hand: the calls of that pass are
 -- reports of gathered pieces
-pub record IsBoard {F : Type 0} (value : F → List ℕ → ItemValue) (crew : Crew F) (tally : TallyState)
+pub record IsBoard {F : Type 0} (value : F → List ℕ → ItemValue) (parts : EngineParts F) (tally : TallyState)
     (pass : PassState (List ℕ)) : Type 0 where
-  pub counter : tally.of ≡ crew.counter
-  pub future : pass.of ≡ crew.future
-  pub number : pass.number ≡ reporter crew
+  pub counter : tally.of ≡ parts.counter
+  pub future : pass.of ≡ parts.future
+  pub number : pass.number ≡ reporter parts
   pub childless : pass.children ≡ 0
   pub opened : BeginsWith pass.known opening
-  pub reports : All (IsOfPiece (work_of value crew) crew.counter.n crew.sizes tally.pieces)
+  pub reports : All (IsOfPiece (work_of value parts) parts.counter.n parts.sizes tally.pieces)
       (calls_by pass.number pass.known)
 
 -- ---- how it is made
@@ -286,20 +286,20 @@ pub record IsOpened (terms : Terms) (workers : ℕ) (future : FutureId) (passes 
   pub caller_is : caller ≡ pass_at future (workers + 1) opening
 
 -- the desks are all those of the engine
-pub record AreDesks {F : Type 0} (value : F → List ℕ → ItemValue) (called : F → List ℕ) (crew : Crew F)
+pub record AreDesks {F : Type 0} (value : F → List ℕ → ItemValue) (called : F → List ℕ) (parts : EngineParts F)
     (desks : List (DeskState F)) : Type 0 where
-  pub count : length desks ≡ crew.counter.workers
-  pub each : All (IsDesk value called crew) desks
+  pub count : length desks ≡ parts.counter.workers
+  pub each : All (IsDesk value called parts) desks
 
 -- an engine of these, with a new desk for each worker, and the caller's pass
 pub record IsEngineOf {F : Type 0} (value : F → List ℕ → ItemValue) (called : F → List ℕ) (items : List (List ℕ))
-    (terms : Terms) (sizes : List ℕ) (functions : List F) (crew : Crew F) (desks : List (DeskState F))
+    (terms : Terms) (sizes : List ℕ) (functions : List F) (parts : EngineParts F) (desks : List (DeskState F))
     (pass : PassState (List ℕ)) : Type 0 where
-  pub items_are : crew.items ≡ items
-  pub functions_are : crew.functions ≡ functions
-  pub sizes_are : crew.sizes ≡ sizes
-  pub terms_are : crew.future.terms ≡ terms
-  pub fits : IsCrew value crew
-  pub desks_are : AreDesks value called crew desks
-  pub fresh : (number : ℕ) → number < length desks → IfSome (slice_get desks number) (IsNewDesk crew number)
-  pub pass_is : pass ≡ pass_at crew.future (crew.counter.workers + 1) opening
+  pub items_are : parts.items ≡ items
+  pub functions_are : parts.functions ≡ functions
+  pub sizes_are : parts.sizes ≡ sizes
+  pub terms_are : parts.future.terms ≡ terms
+  pub fits : FitTogether value parts
+  pub desks_are : AreDesks value called parts desks
+  pub fresh : (number : ℕ) → number < length desks → IfSome (slice_get desks number) (IsNewDesk parts number)
+  pub pass_is : pass ≡ pass_at parts.future (parts.counter.workers + 1) opening

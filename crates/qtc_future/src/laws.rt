@@ -3,6 +3,7 @@
 ghost use Rattle.qtc_future.specs.Laws.{AnswersHaveCauses, EndsDropAll, JournalsGrowByOne, JournalsAreLegal, EndsAreLast, ResultsStay, ReportsAreFound, EventsGrow, AccountedIsSum};
 
 use qtc_events::{journals_end, thresholds_act};
+use qtc_store::{batches_are_found, batches_keep_results};
 
 /// When each answer comes.
 pub fn answers_have_causes<V>()
@@ -37,13 +38,18 @@ pub fn ends_are_last<V>()
 /// The results at a journal are those at each longer one.
 pub fn results_stay<V>()
     ensures { ResultsStay V }
-{}
+{
+    batches_keep_results::<V>();
+}
 
 /// The values of an accepted report are found at its indexes, and in filter mode at the positions that the values
 /// before them give.
 pub fn reports_are_found<V>()
     ensures { ReportsAreFound V }
-{}
+{
+    batches_keep_results::<V>();
+    batches_are_found::<V>();
+}
 
 /// The events of a longer journal begin with those of the shorter.
 pub fn events_grow<V>()

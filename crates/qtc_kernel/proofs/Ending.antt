@@ -21,6 +21,7 @@ use Rattle.qtc_store.specs.Batches.{AreApart, end_of, in_order, placed}
 use Rattle.qtc_store.specs.Stored.{IsFirstResults}
 use Rattle.qtc_store.specs.declared.batch.Batch.{Batch}
 use Rattle.qtc_store.proofs.First.{first_results}
+use Rattle.qtc_store.proofs.Keeping.{batches_keep_results}
 use Rattle.qtc_store.proofs.Offers.{is_covered-in_order}
 use Rattle.qtc_future.specs.Future.{Future, Logged, batch_of, batches_in, failure_in, failure_of_call, flags_of, reports_of, results_of}
 use Rattle.qtc_future.specs.declared.replies.Failure.{Failure}
@@ -319,7 +320,7 @@ module _ (job : Workload) (shares : List ℕ) (terms : Terms) (journal : Journal
 
   apart : (index : ℕ) → times_covered (map range_of (reports_of journal)) index ≤ 1
   apart index =
-      let store = legal_store future lawful.legal in
+      let store = legal_store (batches_keep_results _) future lawful.legal in
       let once = apart_once index 0 (in_order (reports_of whole)) store.apart in
       let same = times_fold index [] (reports_of whole) in
       let is : times_covered (map range_of (reports_of whole)) index ≡ times_covered (map range_of (reports_of journal)) index = ap (λ batches. times_covered (map range_of batches) index) reports_are in
@@ -404,7 +405,7 @@ module _ (job : Workload) (shares : List ℕ) (terms : Terms) (journal : Journal
       where
         results_are : IsFirstResults (results_of future) (kept_texts job)
         results_are =
-            let store = legal_store future lawful.legal in
+            let store = legal_store (batches_keep_results _) future lawful.legal in
             let batches = reports_of whole in
             let texts : All (HasTexts job) batches = subst (All (HasTexts job)) (sym reports_are) (All-weaker (IsGood job m shares tally.pieces) (HasTexts job) (λ batch is. is.texts) (reports_of journal) good) in
             let all = shown job 0 (in_order batches) store.apart (all_in_order (HasTexts job) batches texts) (omega arith)

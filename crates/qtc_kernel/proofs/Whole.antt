@@ -11,6 +11,7 @@ use Rattle.qtc_events.specs.declared.calls.Call.TheVariants.{Fail as FailCall}
 use Rattle.qtc_store.specs.Batches.{in_order, is_covered, least_covered}
 use Rattle.qtc_store.specs.Stored.{IsFirstResults}
 use Rattle.qtc_store.proofs.First.{first_results}
+use Rattle.qtc_store.proofs.Keeping.{batches_keep_results}
 use Rattle.qtc_store.proofs.Offers.{is_covered-in_order}
 use Rattle.qtc_future.specs.Future.{Future, flags_of, reports_of, results_of}
 use Rattle.qtc_future.specs.Laws.{JournalsAreLegal}
@@ -240,7 +241,7 @@ module _ (work : Workload) (filter : Bool) (engine : Engine) (h : IsGoing work f
   whole_results : IsLegal engine.future → IsFirstResults (results_of engine.future) (kept_texts work)
   whole_results legal =
       let reports = reports_of engine.future.calls in
-      let store = legal_store engine.future legal in
+      let store = legal_store (batches_keep_results _) engine.future legal in
       let all = shown work 0 (in_order reports) store.apart (all_in_order (HasTexts work) reports h.sound.texts) (omega arith)
       (λ index low less. is_covered-in_order reports index ∙ one_covers reports index (let once = reported_once index in let one = below_yes index (size_of work) less in omega arith))
       (λ index past. is_covered-in_order reports index ∙ none_covers reports index (reported_once index ∙ below_no index (size_of work) past)) in

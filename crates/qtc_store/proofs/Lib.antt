@@ -10,6 +10,8 @@ pub mod Below
 pub mod Arrival
 pub mod Offers
 pub mod Refused
+pub mod Keeping
+pub mod Found
 pub mod Ascending
 pub mod Taken
 pub mod PendingLemmas

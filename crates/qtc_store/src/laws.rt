@@ -2,7 +2,7 @@
 
 ghost use Rattle.std.specs.Prelude.{◌≡◌};
 ghost use Rattle.qtc_base.specs.Limits.{most_end};
-ghost use Rattle.qtc_store.specs.Laws.{InOrderAscends, VisibleIsBelowGap};
+ghost use Rattle.qtc_store.specs.Laws.{BatchesAreFound, BatchesKeepResults, InOrderAscends, VisibleIsBelowGap};
 
 use crate::batch::MOST_END;
 
@@ -19,4 +19,15 @@ pub fn visible_is_below_gap<V>()
 /// Batches in order are the same batches, each as often as before, ascending by their begins.
 pub fn batches_in_order_ascend<V>()
     ensures { InOrderAscends V }
+{}
+
+/// A batch that nothing refuses leaves a store, and each result as it was.
+pub fn batches_keep_results<V>()
+    ensures { BatchesKeepResults V }
+{}
+
+/// The values of a batch are found at its indexes, and in filter mode at the positions that the values before them
+/// give.
+pub fn batches_are_found<V>()
+    ensures { BatchesAreFound V }
 {}

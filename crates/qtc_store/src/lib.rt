@@ -10,5 +10,8 @@ mod ranges;
 mod store;
 
 pub use batch::{AddFault, Added, Addition, Batch, MOST_END};
-pub use laws::{batches_in_order_ascend, most_end_is_the_limit, visible_is_below_gap};
+pub use laws::{
+    batches_are_found, batches_in_order_ascend, batches_keep_results, most_end_is_the_limit,
+    visible_is_below_gap,
+};
 pub use store::ResultStore;

@@ -1,4 +1,4 @@
-ghost use Rattle.std.specs.Prelude.{◌≡◌, [], ◌∷◌, ◌++◌, map, OnOk, OnErr, IfOk, take, length};
+ghost use Rattle.std.specs.Prelude.{◌≡◌, false, [], ◌∷◌, ◌++◌, map, IsOk, OnOk, OnErr, IfOk, take, length};
 ghost use Rattle.qtc_events.specs.Flags.{flags_in};
 ghost use Rattle.qtc_events.specs.Replay.{replayed, told_where};
 ghost use Rattle.qtc_base.specs.Ranges.{bounds_of};
@@ -32,18 +32,20 @@ fn tell(event: Event, events: &mut List<Event>) -> Result<(), NoMemory>
     }
 }
 
-/// Appends the event where its flag stands.
+/// Appends the event where its flag stands, and else wants no memory.
 fn tell_where(stands: bool, event: Event, events: &mut List<Event>) -> Result<(), NoMemory>
-    ensures { OnOk result (events.new ≡ events.old ++ told_where stands event) }
+    ensures ok { OnOk result (events.new ≡ events.old ++ told_where stands event) }
+    ensures sure { stands ≡ false → IsOk result }
 {
     if stands { tell(event, events) } else { Ok(()) }
 }
 
 /// What a watcher is told that connects where `flags` stand and the ranges `ready` hold results: Started,
 /// one Ready for each range, Suspended or else Suspending, Canceled, Finished, each where it stands.
-/// (After Qt's QFutureWatcher.)
+/// Err is want of memory, and there is none where there is nothing to tell. (After Qt's QFutureWatcher.)
 pub fn replay(alloc: Global, flags: Flags, ready: &[Range]) -> Result<List<Event>, NoMemory>
-    ensures { IfOk result (λ events. events ≡ replayed (flags_in flags.bits) (map bounds_of ready.now)) }
+    ensures ok { IfOk result (λ events. events ≡ replayed (flags_in flags.bits) (map bounds_of ready.now)) }
+    ensures sure { replayed (flags_in flags.bits) (map bounds_of ready.now) ≡ [] → IsOk result }
 {
     let mut events = List::new(alloc);
     tell_where(flags.is_started(), Event::Started, &mut events)?;

@@ -34,7 +34,7 @@ impl<V> Model for FutureCore<V> {
 }
 
 impl<V> FutureCore<V> {
-    ghost use Rattle.std.specs.Prelude.{◌≡◌, None, IfOk, IsSome, IsTrue, option_copied, slice_get, map};
+    ghost use Rattle.std.specs.Prelude.{◌≡◌, [], None, IfOk, IsOk, IsSome, IsTrue, option_copied, slice_get, map};
     ghost use Rattle.qtc_events.specs.Flags.{flags_in};
     ghost use Rattle.qtc_store.specs.Stored.{value_at, count_of, ranges_of, AreRangesOf};
     ghost use Rattle.qtc_base.specs.Ranges.{bounds_of};
@@ -123,9 +123,11 @@ impl<V> FutureCore<V> {
         self.store.batches()
     }
 
-    /// What a watcher is told that connects now. Err is want of memory.
+    /// What a watcher is told that connects now. Err is want of memory, and there is none where there is nothing to
+    /// tell.
     pub fn replay(&self) -> Result<List<Event>, NoMemory>
-        ensures { IfOk result (λ events. events ≡ replay_of self.now) }
+        ensures ok { IfOk result (λ events. events ≡ replay_of self.now) }
+        ensures sure { replay_of self.now ≡ [] → IsOk result }
     {
         let ranges = self.store.batches()?;
         replay(self.book.allocator(), self.book.flags(), ranges.as_slice())

@@ -8,7 +8,8 @@ use Rattle.qtc_events.specs.declared.events.Event.{Event}
 use Rattle.qtc_events.specs.declared.events.Event.TheVariants.{Ready}
 use Rattle.qtc_events.specs.declared.flags.Flags.{Flags}
 use Rattle.qtc_future.specs.Answering.{IsStep, IsTry, is_idle}
-use Rattle.qtc_future.specs.Future.{Future, Logged, results_of}
+use Rattle.qtc_future.specs.Ends.{replay_of}
+use Rattle.qtc_future.specs.Future.{Future, Logged, events_of, results_of}
 use Rattle.qtc_future.specs.Steps.{Told, Accepted, Effect, has_ended, step}
 use Rattle.qtc_future.specs.declared.requests.Request.{Request}
 use Rattle.qtc_future.specs.declared.requests.Request.TheVariants.{ReportSuspended, Cancel, Finish}
@@ -122,6 +123,12 @@ pub record IsResumed (flags : Standing) : Type 0 where
 pub record IsCopied {V : Type 0} (index : ℕ) (result : Result (Option V) NoMemory) (future : Future V) : Type 0 where
   pub ok : IfOk result (λ value. value ≡ value_at (results_of future) index)
   pub sure : value_at (results_of future) index ≡ None → IsOk result
+
+-- what a watcher is told that connects, and how many events there are then; where there is nothing to tell it wants no
+-- memory
+pub record IsReplayed {V : Type 0} (result : Result (List Event × ℕ) NoMemory) (future : Future V) : Type 0 where
+  pub ok : IfOk result (λ told. (told.0 ≡ replay_of future) × (told.1 ≡ length (events_of future)))
+  pub sure : replay_of future ≡ [] → IsOk result
 
 -- what a wait for a result finds: that copy, and none only where Canceled or Finished stands
 pub record IsAwaited {V : Type 0} (index : ℕ) (result : Result (Option V) NoMemory) (future : Future V) : Type 0 where

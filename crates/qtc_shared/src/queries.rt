@@ -1,9 +1,8 @@
 //! Calls that read what a shared future has: each is one hold of its lock, and changes nothing.
-ghost use Rattle.std.specs.Prelude.{◌≡◌, IfOk, slice_get, length, drop};
-ghost use Rattle.qtc_future.specs.Ends.{replay_of};
+ghost use Rattle.std.specs.Prelude.{◌≡◌, slice_get, drop};
 ghost use Rattle.qtc_future.specs.Future.{events_of, results_of};
 ghost use Rattle.qtc_store.specs.Stored.{count_of};
-ghost use Rattle.qtc_shared.specs.Passes.{Finds, IsCopied, IsHold, ready_among};
+ghost use Rattle.qtc_shared.specs.Passes.{Finds, IsCopied, IsHold, IsReplayed, ready_among};
 
 use crate::{Pass, SharedFuture};
 use qtc_base::{List, NoMemory, Value};
@@ -62,15 +61,15 @@ impl<V: Value> SharedFuture<V> {
         ready
     }
 
-    /// What a watcher is told that connects at this step, and how many events there are then. Err is want of memory.
+    /// What a watcher is told that connects at this step, and how many events there are then. Err is want of memory,
+    /// and there is none where there is nothing to tell.
     pub fn replay<R: Wait>(
         &self,
         rt: &R,
         pass: &mut Pass<V>,
     ) -> Result<(List<Event>, u64), NoMemory>
         requires { pass.old.of ≡ self.now }
-        ensures { IsHold pass.old pass.new (Finds (λ future. IfOk result (λ told.
-            (told.0 ≡ replay_of future) × (told.1 ≡ length (events_of future))))) }
+        ensures { IsHold pass.old pass.new (Finds (IsReplayed result)) }
     {
         let (book, hold) = self.locked.show(rt, &mut pass.seat);
         let count = book.core.events().len() as u64;

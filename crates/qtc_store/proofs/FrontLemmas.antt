@@ -1,26 +1,19 @@
 -- The batches that meet from index 0 on, and where their values stand.
-use Rattle.std.proofs.Common.{rules, ◌≡◌, ◌≢◌, ℕ, zero, suc, ◌+◌, ◌-◌, ◌<◌, ◌≤◌, max, Bool, true, false, leb, leb-true, List, [], ◌∷◌, ◌++◌, length, map, take, get_or, All, Option, Some, None, inl, inr, refl, ap, sym, ◌∙◌, subst, arith, append_assoc, length-append, add_assoc}
+use Rattle.std.proofs.Common.{◌≡◌, ℕ, zero, suc, ◌+◌, ◌-◌, ◌<◌, ◌≤◌, Bool, true, false, leb, leb-true, List, [], ◌∷◌, ◌++◌, length, take, get_or, None, refl, ap, sym, ◌∙◌, subst, arith, append_assoc, length-append}
 use Rattle.std.specs.List.{flat_map, slice_get}
 use Rattle.std.specs.List.Sorted.{IsNonDecreasingBy, IsPartitionPoint}
-use Rattle.std.specs.Ordering.{nat_cmp}
-use Rattle.std.specs.FinMap.{find}
-use Rattle.std.proofs.lemmas.Bool.{cases_lt, cases_eq}
+use Rattle.std.proofs.Math.Seq.{take-nil}
 use Rattle.std.proofs.lemmas.Bool.Decides.{nat_tests}
 use Rattle.std.proofs.lemmas.List.{append-nil}
-use Rattle.std.proofs.lemmas.List.Elements.{All-head, All-tail}
 use Rattle.qtc_store.specs.declared.batch.Batch.{Batch}
 use Rattle.qtc_store.specs.declared.front.Met.{Met}
-use Rattle.qtc_store.specs.Batches.{end_of, values_of, covers, greatest_end, placed, least_covered}
-use Rattle.qtc_store.specs.Results.{cells_of, result_ranges}
-use Rattle.qtc_store.specs.Visible.{meeting, meeting_end, visible, positions, position_ranges}
+use Rattle.qtc_store.specs.Batches.{end_of, values_of}
+use Rattle.qtc_store.specs.Results.{result_ranges}
+use Rattle.qtc_store.specs.Visible.{meeting, meeting_end, positions, position_ranges}
 use Rattle.qtc_store.specs.Inside.{batches_of, AreMet, AreFirsts}
-use Rattle.qtc_store.proofs.Cells.{slice_get-append_left, slice_get-append_right}
-use Rattle.qtc_store.proofs.Covered.{least_covered-past}
+use Rattle.qtc_store.proofs.Cells.{slice_get-append_right}
 use Rattle.qtc_store.proofs.Gap.{meeting_end-low}
-use Rattle.qtc_store.proofs.Kept.{skip_batch}
-use Rattle.qtc_store.proofs.Meeting.{meeting-next, meeting-stop, meeting_end-next}
-use Rattle.qtc_store.proofs.PendingLemmas.{IsFew, slice_get-is, slice_get-past}
-use Rattle.qtc_store.proofs.Placed.{placed-after}
+use Rattle.qtc_store.proofs.Meeting.{meeting-next, meeting_end-next}
 
 -- ---- batches that meet, and others behind them
 pub met_append : {V : Type 0} (low : ℕ) (xs ys : List (Batch V)) → AreMet low xs → meeting low (xs ++ ys) ≡ xs ++ meeting (meeting_end low xs) ys
@@ -177,3 +170,21 @@ module _ {V : Type 0} (items ms : List (Met V)) (value : ms ≡ items) (k : ℕ)
       ap (λ n. position_ranges 0 (batches_of (take n items))) next
       ∙ positions_take 0 items k m firsts within
       ∙ ap (λ (x : Met V). position_ranges 0 (batches_of (take k items)) ++ positions x.first (length x.batch.values)) (sym here)
+
+-- ---- where no positions are told
+none_right : {A : Type 0} (xs ys : List A) → xs ++ ys ≡ [] → ys ≡ []
+none_right [] ys e = e
+none_right (x ∷ xs) ys e = absurd (cc)
+
+none_taken : {V : Type 0} (place : ℕ) (items : List (Met V)) (k : ℕ) → position_ranges place (batches_of items) ≡ [] → position_ranges place (batches_of (take k items)) ≡ []
+none_taken place [] k e = ap (λ (ms : List (Met _)). position_ranges place (batches_of ms)) (take-nil k)
+none_taken place (m ∷ items) zero e = refl
+none_taken place (m ∷ items) (suc k) e =
+    let here = positions place (length m.batch.values) in
+    let later = none_right here (position_ranges (place + length m.batch.values) (batches_of items)) e in
+    ap (λ rs. here ++ rs) (none_taken (place + length m.batch.values) items k later ∙ sym later) ∙ e
+
+-- a batch of which positions are told is none of those
+pub no_positions : {V : Type 0} (items : List (Met V)) (k position count : ℕ) → position_ranges 0 (batches_of items) ≡ [] → position_ranges 0 (batches_of (take (k + 1) items)) ≡ position_ranges 0 (batches_of (take k items)) ++ positions position count → positions position count ≡ []
+no_positions items k position count none next =
+    none_right (position_ranges 0 (batches_of (take k items))) (positions position count) (sym next ∙ none_taken 0 items (k + 1) none)

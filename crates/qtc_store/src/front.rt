@@ -1,6 +1,6 @@
 //! The batches that meet from index 0 on.
 
-ghost use Rattle.std.specs.Prelude.{◌≡◌, ◌+◌, ◌≤◌, [], ◌∷◌, ◌++◌, length, option_copied, slice_get, All, OnOk, IfOk};
+ghost use Rattle.std.specs.Prelude.{◌≡◌, ◌+◌, ◌≤◌, [], ◌∷◌, ◌++◌, length, option_copied, slice_get, All, IsOk, OnOk, IfOk};
 ghost use Rattle.std.specs.List.{flat_map};
 ghost use Rattle.std.specs.Vec.{vec_len, vec_capacity};
 ghost use Rattle.qtc_store.specs.Batches.{greatest_end, values_of};
@@ -98,7 +98,8 @@ impl<V> Front<V> {
     /// Appends the ranges that the batches cover. Err is want of memory.
     pub(crate) fn append_ranges(&self, ranges: &mut List<Range>) -> Result<(), NoMemory>
         requires { IsFront self.now }
-        ensures { OnOk result (Appends ranges.old ranges.new (result_ranges (met_in self.now))) }
+        ensures ok { OnOk result (Appends ranges.old ranges.new (result_ranges (met_in self.now))) }
+        ensures sure { met_in self.now ≡ [] → IsOk result }
     {
         for met in &self.met {
             let begin = met.batch.begin;
@@ -110,7 +111,8 @@ impl<V> Front<V> {
     /// Appends the positions of each batch that has values. Err is want of memory.
     pub(crate) fn append_positions(&self, ranges: &mut List<Range>) -> Result<(), NoMemory>
         requires { IsFront self.now }
-        ensures { OnOk result (Appends ranges.old ranges.new (position_ranges 0 (met_in self.now))) }
+        ensures ok { OnOk result (Appends ranges.old ranges.new (position_ranges 0 (met_in self.now))) }
+        ensures sure { position_ranges 0 (met_in self.now) ≡ [] → IsOk result }
     {
         for met in &self.met {
             let count = met.batch.values.as_slice().len() as u32;

@@ -1,6 +1,6 @@
 //! The batches behind a gap.
 
-ghost use Rattle.std.specs.Prelude.{◌≡◌, ◌+◌, ◌^◌, ◌<◌, ◌≤◌, [], ◌∷◌, ◌++◌, length, map, option_copied, slice_get, filter, nat_le, nat_lt, All, OnOk, OnErr, IfErr, MatchOption};
+ghost use Rattle.std.specs.Prelude.{◌≡◌, ◌+◌, ◌^◌, ◌<◌, ◌≤◌, [], ◌∷◌, ◌++◌, length, map, option_copied, slice_get, filter, nat_le, nat_lt, All, IsOk, OnOk, OnErr, IfErr, MatchOption};
 ghost use Rattle.std.specs.List.{last_or};
 ghost use Rattle.std.specs.Ordering.{nat_cmp};
 ghost use Rattle.std.specs.FinMap.{get};
@@ -137,7 +137,8 @@ impl<V> Pending<V> {
     /// Appends the ranges that the batches cover. Err is want of memory.
     pub(crate) fn append_ranges(&self, ranges: &mut List<Range>) -> Result<(), NoMemory>
         requires { greatest_end (waiting_in self.now) ≤ most_end }
-        ensures { OnOk result (Appends ranges.old ranges.new (result_ranges (waiting_in self.now))) }
+        ensures ok { OnOk result (Appends ranges.old ranges.new (result_ranges (waiting_in self.now))) }
+        ensures sure { waiting_in self.now ≡ [] → IsOk result }
     {
         for (_, batch) in &self.batches {
             append_range(batch.begin, batch.begin + batch.total, ranges)?;

@@ -1,6 +1,6 @@
 //! Ranges that a store tells.
 
-ghost use Rattle.std.specs.Prelude.{◌+◌, ◌≤◌, [], ◌∷◌, OnOk};
+ghost use Rattle.std.specs.Prelude.{◌+◌, ◌≤◌, ◌≡◌, [], ◌∷◌, IsOk, OnOk};
 ghost use Rattle.qtc_base.specs.Limits.{most_end};
 ghost use Rattle.qtc_store.specs.Inside.{Appends};
 ghost use Rattle.qtc_store.specs.Visible.{positions};
@@ -25,7 +25,8 @@ pub(crate) fn append_positions(
     ranges: &mut List<Range>,
 ) -> Result<(), NoMemory>
     requires { position + count ≤ most_end }
-    ensures { OnOk result (Appends ranges.old ranges.new (positions position count)) }
+    ensures ok { OnOk result (Appends ranges.old ranges.new (positions position count)) }
+    ensures sure { positions position count ≡ [] → IsOk result }
 {
     if count == 0 {
         return Ok(());

@@ -1,4 +1,4 @@
-ghost use Rattle.std.specs.Prelude.{◌≡◌, ◌+◌, ◌<◌, ◌≤◌, true, false, [], ◌∷◌, OnOk, OnErr, IfOk, IfErr, IsSome, IsTrue, None, Some, is_some, ℕ, Err, length, map, option_copied, unwrap_or, All};
+ghost use Rattle.std.specs.Prelude.{◌≡◌, ◌+◌, ◌<◌, ◌≤◌, true, false, [], ◌∷◌, OnOk, OnErr, IfOk, IfErr, IsOk, IsSome, IsTrue, None, Some, is_some, ℕ, Err, length, map, option_copied, unwrap_or, All};
 ghost use Rattle.qtc_store.specs.Batches.{greatest_end, least_covered};
 ghost use Rattle.qtc_base.specs.Limits.{most_end};
 
@@ -100,10 +100,11 @@ impl<V> ResultStore<V> {
     }
 
     /// The ranges of the stored batches, or in filter mode the positions of the visible batches that have
-    /// values, ascending. Err is want of memory.
+    /// values, ascending. Err is want of memory, and there is none where there are no ranges.
     pub fn batches(&self) -> Result<List<Range>, NoMemory>
         ensures ranges { IfOk result (λ ranges. map bounds_of ranges ≡ ranges_of self.now) }
         ensures just { IfOk result (λ ranges. AreRangesOf self.now (map bounds_of ranges)) }
+        ensures sure { ranges_of self.now ≡ [] → IsOk result }
     {
         let mut ranges = List::new(*self.front.met.allocator());
         if self.filter {

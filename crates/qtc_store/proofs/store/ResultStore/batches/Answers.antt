@@ -1,4 +1,5 @@
 use Rattle.std.proofs.Common.{◌≡◌, ◌++◌, map, ap, sym, ◌∙◌, subst}
+use Rattle.std.proofs.lemmas.Bool.{false≢true}
 use Rattle.qtc_store.specs.Inside.{met_in, waiting_in, batches_in}
 use Rattle.qtc_store.specs.Results.{result_ranges}
 use Rattle.qtc_store.specs.Stored.{ranges_of, AreRangesOf}
@@ -19,13 +20,13 @@ told g c =
     elim c.if-self.branch [
       | then-self+in_ok-append_positions w ↦
           ap (map bounds_of) w.ranges-is
-          ∙ w.in_ok-append_positions.ensures
+          ∙ w.in_ok-append_positions.ensures.ok
           ∙ ap (λ xs. map bounds_of xs ++ position_ranges 0 (met_in s.front)) c.new-ranges.ensures
           ∙ positions_told s.filter s.front s.pending s.end c.self.invariant w.if-self.true
       | else-self+in_ok-append_ranges+in_ok-append_ranges-2 w ↦
           ap (map bounds_of) w.ranges-is
-          ∙ w.in_ok-append_ranges-2.ensures
-          ∙ ap (λ xs. xs ++ result_ranges (waiting_in s.pending)) w.in_ok-append_ranges.ensures
+          ∙ w.in_ok-append_ranges-2.ensures.ok
+          ∙ ap (λ xs. xs ++ result_ranges (waiting_in s.pending)) w.in_ok-append_ranges.ensures.ok
           ∙ ap (λ xs. (map bounds_of xs ++ result_ranges (met_in s.front)) ++ result_ranges (waiting_in s.pending)) c.new-ranges.ensures
           ∙ ranges_of_both s.filter s.front s.pending s.end c.self.invariant w.if-self.false
     ]
@@ -37,3 +38,8 @@ pub returns-clause-just : goal.returns-clause-just
 returns-clause-just g c =
     let s = c.self.inside in
     subst (λ v. AreRangesOf v (map bounds_of c.if-self.ranges)) c.self.view_is (subst (AreRangesOf (record { filter = s.filter; batches = batches_in s.front s.pending })) (sym (told g c)) (ranges_just s.filter s.front s.pending s.end c.self.invariant))
+
+pub returns-in_err-append_positions-clause-sure : goal.returns-in_err-append_positions-clause-sure
+returns-in_err-append_positions-clause-sure g c none =
+    let s = c.self.inside in
+    absurd (false≢true (c.in_err-append_positions.ensures.sure (positions_told s.filter s.front s.pending s.end c.self.invariant c.if-self.true ∙ ap ranges_of c.self.view_is ∙ none)))

@@ -1,8 +1,9 @@
 //! The side of a future that makes its results.
 ghost use Rattle.std.specs.Prelude.{◌≡◌, ◌<◌, true, IsSome};
+ghost use Rattle.qtc_events.specs.Flags.{flags_in};
 ghost use Rattle.qtc_future.specs.Steps.{Effect};
 ghost use Rattle.qtc_future.specs.declared.requests.Request.TheVariants as request;
-ghost use Rattle.qtc_shared.specs.Passes.{Adds, IsEnding, IsHold, IsPause, IsReport, Makes, Sees};
+ghost use Rattle.qtc_shared.specs.Passes.{Adds, IsEnding, IsHold, IsLook, IsPause, IsReport, Makes, Sees};
 
 use crate::{Pass, SharedFuture};
 use qtc_base::{Bytes, NoMemory, Value};
@@ -39,6 +40,13 @@ impl<'a, V: Value> Promise<'a, V> {
         ensures { result ≡ pass }
     {
         Promise { future, pass }
+    }
+
+    /// The flags, by one load, without the lock.
+    pub fn state(&mut self) -> Flags
+        ensures { IsLook self.old self.new (flags_in result.bits) }
+    {
+        self.future.state(&mut self.pass)
     }
 
     /// Whether Canceled stands, by one load, without the lock.

@@ -23,6 +23,10 @@ impl<'a> Maker<'a> {
         }
     }
 
+    pub fn state(&mut self) -> Flags {
+        self.promise.state()
+    }
+
     pub fn is_canceled(&mut self) -> bool {
         self.promise.is_canceled()
     }

@@ -12,6 +12,7 @@ use std::test::Fail;
 // A call of a maker.
 #[derive(Clone, Copy, Debug)]
 enum Step {
+    AskState,
     AskCanceled,
     Start,
     Pause,
@@ -30,6 +31,7 @@ fn of_pause(flags: Result<Flags, NoMemory>) -> Answer {
 
 fn answered<R: Wait>(rt: &R, alloc: Global, maker: &mut Maker, step: Step) -> Answer {
     match step {
+        Step::AskState => Answer::Flags(maker.state().bits),
         Step::AskCanceled => Answer::Is(maker.is_canceled()),
         Step::Start => Answer::Is(maker.start(rt)),
         Step::Pause => of_pause(maker.pause(rt)),
@@ -54,11 +56,14 @@ fn play<R: Abort + Wait>(rt: &R, alloc: Global, row: &[(Step, Answer)]) -> Resul
 #[test]
 fn results_are_added_until_a_promise_is_finished(rt: HostRuntime) -> Result<(), Fail> {
     let row = [
+        (Step::AskState, Answer::Flags(128)),
         (Step::Start, Answer::Is(true)),
+        (Step::AskState, Answer::Flags(3)),
         (Step::Pause, Answer::Flags(3)),
         (Step::Add(None, 7), Answer::Is(true)),
         (Step::Add(Some(0), 8), Answer::Is(false)),
         (Step::Finish, Answer::Is(true)),
+        (Step::AskState, Answer::Flags(6)),
         (Step::Add(None, 9), Answer::Is(false)),
     ];
     play(&rt, rt.alloc(), row.as_slice())

@@ -1,11 +1,11 @@
 -- Holds and looks, one after the other.
-use Rattle.std.proofs.Common.{◌≡◌, ℕ, List, [], ◌∷◌, ◌++◌, refl, ap, sym, ◌∙◌, subst, append_assoc, append-nil}
+use Rattle.std.proofs.Common.{◌≡◌, List, [], ◌∷◌, ◌++◌, refl, ap, ◌∙◌, subst, append_assoc}
 use Rattle.qtc_events.specs.Flags.{Standing}
 use Rattle.qtc_future.specs.Future.{Future, Logged}
 use Rattle.qtc_shared.specs.Journals.{BeginsWith, IsJournal, Saw, calls_by}
-use Rattle.qtc_shared.specs.Parts.{Terms, future_at}
+use Rattle.qtc_shared.specs.Parts.{future_at}
 use Rattle.qtc_shared.specs.Passes.{FutureId, PassState, Meets, IsHold, IsLook, IsWatch, Finds, Stays, having_seen}
-use Rattle.qtc_shared.proofs.Prefixes.{saw_later, begins_same}
+use Rattle.qtc_shared.proofs.Prefixes.{saw_later}
 
 -- whatever the pass meets now, it would have met before
 pub record Continues {V : Type 0} (old now : PassState V) : Type 0 where

@@ -1,5 +1,5 @@
 -- A pass that a child was made from.
-use Rattle.std.proofs.Common.{◌≡◌, ℕ, List, [], ◌∷◌, Option, None, Some, IfNone, IfSome, refl, ap, sym, ◌∙◌, subst}
+use Rattle.std.proofs.Common.{◌≡◌, ℕ, List, Option, None, Some, IfNone, IfSome, refl, ap, sym, ◌∙◌, subst}
 use Rattle.atomic_table.specs.declared.shared.Seat.{Seat}
 use Rattle.qtc_future.specs.Future.{Logged}
 use Rattle.qtc_shared.specs.declared.rule.View.{View}

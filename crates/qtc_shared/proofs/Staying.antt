@@ -1,5 +1,5 @@
 -- Flags that stand for good.
-use Rattle.std.proofs.Common.{◌≡◌, ◌⊎◌, inl, inr, ℕ, Bool, true, false, ◌||◌, List, [], ◌∷◌, ◌++◌, Option, IsTrue, fold, if◌then◌else◌, refl, ap, sym, ◌∙◌, subst, append-nil}
+use Rattle.std.proofs.Common.{◌≡◌, ◌⊎◌, inl, inr, Bool, true, false, ◌||◌, List, [], ◌∷◌, ◌++◌, IsTrue, fold, if◌then◌else◌, refl, ap, sym, ◌∙◌, subst, append-nil}
 use Rattle.std.specs.List.{list_any}
 use Rattle.std.proofs.lemmas.List.{map-append}
 use Rattle.std.proofs.lemmas.List.Sums.{fold-append}
@@ -12,11 +12,10 @@ use Rattle.qtc_events.specs.declared.entries.Entry.{Entry}
 use Rattle.qtc_events.specs.declared.entries.Reached.{Reached}
 use Rattle.qtc_future.specs.Future.{Future, Logged, entries_of}
 use Rattle.qtc_future.specs.Legal.{IsLegal}
-use Rattle.qtc_future.specs.Steps.{Stepped, dropped, step}
-use Rattle.qtc_future.specs.declared.requests.Request.TheVariants.{ReportBatch, AddResult, Account}
+use Rattle.qtc_future.specs.Steps.{Stepped, dropped}
 use Rattle.qtc_future.proofs.Legality.{ends_are_last}
 use Rattle.qtc_shared.specs.Journals.{BeginsWith, Saw, flags_at}
-use Rattle.qtc_shared.specs.Parts.{Terms, future_at}
+use Rattle.qtc_shared.specs.Parts.{future_at}
 use Rattle.qtc_shared.specs.Passes.{PassState, Meets}
 use Rattle.qtc_shared.specs.Laws.{has_seen, is_started, is_canceled, is_finished, is_ended, SeenFlagsStay, SeenEndsDropAll, KnownIsKept}
 use Rattle.qtc_shared.proofs.Prefixes.{saw_begins}

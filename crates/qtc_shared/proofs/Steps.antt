@@ -1,7 +1,7 @@
 -- Each step on a flag word keeps its rule, and what it tells.
 use Rattle.std.proofs.Common.{◌≡◌, ◌≢◌, inl, inr, ℕ, ◌+◌, ◌<◌, ◌≤◌, ◌==◌, cond, nat_lt, true, false, Bool, List, [], ◌∷◌, ◌++◌, length, set, sym, refl, ◌∙◌, subst, arith, sum_by, count_by, All, slice_index, slice_set}
 use Rattle.std.proofs.lemmas.Bool.Decides.{nat_tests}
-use Rattle.std.proofs.lemmas.List.Sums.{sum_by-append, sum_by-cons}
+use Rattle.std.proofs.lemmas.List.Sums.{sum_by-cons}
 use Rattle.std.proofs.lemmas.List.Elements.{All-set, All-append, All-cons, All-nil, All-weaker, All-head}
 use mathlib.Core.Option.{some}
 use lib.ListN.{get_elem?}

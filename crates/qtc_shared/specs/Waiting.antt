@@ -1,5 +1,5 @@
 -- What a thread waits for at the flags. (Own.)
-use Rattle.std.specs.Prelude.{◌≡◌, IsTrue}
+use Rattle.std.specs.Prelude.{IsTrue}
 use Rattle.qtc_events.specs.Flags.{Standing}
 use Rattle.qtc_shared.specs.Passes.{IsResumed}
 use Rattle.qtc_shared.specs.declared.waits.Until.{Until}

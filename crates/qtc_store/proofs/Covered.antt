@@ -1,11 +1,10 @@
 -- Which indexes batches cover.
-use Rattle.std.proofs.Common.{◌≡◌, ℕ, zero, suc, ◌+◌, ◌<◌, ◌≤◌, max, true, false, nat_lt, List, [], ◌∷◌, length, get_or, drop, Option, Some, None, if◌then◌else◌, inl, inr, refl, ap, sym, ◌∙◌, subst, arith}
+use Rattle.std.proofs.Common.{◌≡◌, ℕ, zero, suc, ◌+◌, ◌<◌, ◌≤◌, max, true, false, nat_lt, List, [], ◌∷◌, Option, Some, None, if◌then◌else◌, inl, inr, refl, sym, ◌∙◌, arith}
 use Rattle.std.specs.List.{find, range_with_len}
 use Rattle.std.proofs.lemmas.Bool.{cases_lt}
 use Rattle.std.proofs.lemmas.Bool.Decides.{nat_tests}
-use Rattle.std.proofs.lemmas.List.{drop_more, drop_all}
 use Rattle.qtc_store.specs.declared.batch.Batch.{Batch}
-use Rattle.qtc_store.specs.Batches.{end_of, covers, is_covered, least_covered, greatest_end, AreApart}
+use Rattle.qtc_store.specs.Batches.{end_of, covers, is_covered, least_covered, AreApart}
 
 -- ---- batches apart
 pub apart_lower : {V : Type 0} (low low' : ℕ) (batches : List (Batch V)) → low ≤ low' → AreApart low' batches → AreApart low batches

@@ -1,12 +1,9 @@
 -- The batches that meet.
-use Rattle.std.proofs.Common.{◌≡◌, ◌≢◌, ℕ, ◌+◌, ◌<◌, ◌≤◌, List, [], ◌∷◌, ◌++◌, length, get_or, drop, max, All, refl, ap, sym, ◌∙◌, subst, eq-eqb, length-append, append_assoc}
-use Rattle.std.specs.List.{flat_map}
+use Rattle.std.proofs.Common.{◌≡◌, ◌≢◌, ℕ, List, [], ◌∷◌, refl, eq-eqb}
 use Rattle.std.proofs.lemmas.Bool.{ne_eqb}
-use Rattle.std.proofs.lemmas.List.{drop_all}
-use Rattle.std.proofs.lemmas.List.Elements.{All-get_or}
 use Rattle.qtc_store.specs.declared.batch.Batch.{Batch}
-use Rattle.qtc_store.specs.Batches.{end_of, values_of, greatest_end}
-use Rattle.qtc_store.specs.Visible.{meeting, meeting_end, positions, position_ranges}
+use Rattle.qtc_store.specs.Batches.{end_of}
+use Rattle.qtc_store.specs.Visible.{meeting, meeting_end}
 
 -- ---- one step
 pub meeting-next : {V : Type 0} (b : Batch V) (batches : List (Batch V)) (place : ℕ) → b.begin ≡ place → meeting place (b ∷ batches) ≡ b ∷ meeting (end_of b) batches

@@ -1,5 +1,5 @@
 -- What a store's parts say of its batches.
-use Rattle.std.proofs.Common.{◌≡◌, ◌≢◌, ℕ, zero, suc, ◌+◌, ◌<◌, ◌≤◌, max, Bool, true, false, nat_lt, List, [], ◌∷◌, ◌++◌, length, map, All, Option, Some, None, IsSome, is_some, inl, inr, refl, ap, sym, ◌∙◌, subst, arith, append_assoc}
+use Rattle.std.proofs.Common.{◌≡◌, ◌≢◌, ℕ, zero, suc, ◌<◌, ◌≤◌, max, Bool, true, false, List, [], ◌∷◌, ◌++◌, length, All, Some, None, IsSome, inl, inr, refl, ap, sym, ◌∙◌, subst, arith, append_assoc}
 use Rattle.std.specs.List.{flat_map, slice_get}
 use Rattle.std.specs.Ordering.{nat_cmp}
 use Rattle.std.specs.FinMap.{find, get}
@@ -10,19 +10,19 @@ use Rattle.std.proofs.lemmas.List.Elements.{All-head, All-tail, All-weaker}
 use Rattle.qtc_store.specs.declared.batch.Batch.{Batch}
 use Rattle.qtc_store.specs.declared.front.Front.{Front}
 use Rattle.qtc_store.specs.declared.pending.Pending.{Pending}
-use Rattle.qtc_store.specs.Batches.{end_of, values_of, covers, is_covered, least_covered, greatest_end, placed, AreApart, IsWhole}
+use Rattle.qtc_store.specs.Batches.{end_of, values_of, covers, least_covered, greatest_end, placed, AreApart, IsWhole}
 use Rattle.qtc_store.specs.Results.{cells_of, results, result_ranges}
-use Rattle.qtc_store.specs.Visible.{meeting, meeting_end, visible, visible_ranges, position_ranges}
+use Rattle.qtc_store.specs.Visible.{meeting, meeting_end, visible, position_ranges}
 use Rattle.qtc_store.specs.Stored.{Stored, IsStore, IsFirstGap, IsFirstResults, AreRangesOf, KeepsResults, NothingRefuses, count_of, value_at, ranges_of, with_batch}
 use Rattle.qtc_store.specs.Inside.{met_in, waiting_in, batches_in, AreMet, IsFront, IsKeyed, IsLaid}
 use Rattle.qtc_store.proofs.Cells.{results_found}
 use Rattle.qtc_store.proofs.Covered.{apart_lower, least_covered-past, least_covered-nil}
 use Rattle.qtc_store.proofs.First.{first_results, shown_len, shown_at}
 use Rattle.qtc_store.proofs.FrontLemmas.{met_append, met_end_append}
-use Rattle.qtc_store.proofs.Gap.{IsFull, full_from, plain_count, plain_gap, meeting_covered, meeting_end-low}
+use Rattle.qtc_store.proofs.Gap.{full_from, plain_count, plain_gap, meeting_covered, meeting_end-low}
 use Rattle.qtc_store.proofs.Kept.{skip_batch, shown_from, kept_by_mode}
 use Rattle.qtc_store.proofs.Meeting.{meeting-next, meeting-stop, meeting_end-next, meeting_end-stop}
-use Rattle.qtc_store.proofs.PendingLemmas.{IsFew, least_here, slice_get-is, slice_get-past}
+use Rattle.qtc_store.proofs.PendingLemmas.{IsFew, least_here, slice_get-past}
 use Rattle.qtc_store.proofs.Placed.{IsFree, free_from, placed-before, placed-after, greatest_end-placed, store_placed}
 use Rattle.qtc_store.proofs.RangeLemmas.{ranges_told}
 use Rattle.qtc_store.proofs.Refused.{unrefused_free, unrefused_within}

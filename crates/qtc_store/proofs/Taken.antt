@@ -1,14 +1,13 @@
 -- What a filter store shows, in words of the batches in order of arrival.
-use Rattle.std.proofs.Common.{◌≡◌, ℕ, ◌+◌, ◌<◌, ◌≤◌, Bool, true, false, ◌&&◌, nat_lt, cond, ◌⊎◌, List, [], ◌∷◌, ◌++◌, fold, All, Contains, Option, Some, None, is_none, inl, inr, refl, ap, sym, ◌∙◌, subst, arith, append_assoc}
-use Rattle.std.specs.List.{flat_map, slice_get}
-use Rattle.std.proofs.lemmas.Bool.{cases_lt, cases_eq}
+use Rattle.std.proofs.Common.{◌≡◌, ℕ, ◌+◌, ◌<◌, ◌≤◌, Bool, true, false, ◌&&◌, nat_lt, cond, List, [], ◌∷◌, ◌++◌, fold, All, Contains, Option, Some, None, is_none, inl, inr, refl, sym, ◌∙◌, subst, arith, append_assoc}
+use Rattle.std.proofs.lemmas.Bool.{cases_eq}
 use Rattle.std.proofs.lemmas.Bool.Decides.{nat_tests}
 use Rattle.std.proofs.lemmas.List.Elements.{All-weaker, All-contains, All-contains_itself, All-nil, All-cons, All-push, Contains-append_right, Contains-append_cases}
 use Rattle.std.proofs.lemmas.List.Sorted.{IsPermutation-sym, Contains-permutation}
 use Rattle.qtc_store.specs.declared.batch.Batch.{Batch}
 use Rattle.qtc_store.specs.declared.batch.Addition.{Addition}
-use Rattle.qtc_store.specs.Batches.{end_of, values_of, is_covered, placed, in_order, least_covered, AreApart}
-use Rattle.qtc_store.specs.Visible.{meeting, visible}
+use Rattle.qtc_store.specs.Batches.{end_of, placed, in_order, least_covered, AreApart}
+use Rattle.qtc_store.specs.Visible.{meeting}
 use Rattle.qtc_store.specs.Stored.{refusal}
 use Rattle.qtc_store.specs.Adds.{batch_of, is_accepted, accepted_with, accepted_of, store_of, AreTaken, ShowsTaken}
 use Rattle.qtc_store.proofs.Ascending.{in_order_moves}

@@ -1,5 +1,4 @@
 use Rattle.std.proofs.Common.{ap, arith}
-use Rattle.qtc_shared.specs.Parts.{BookPart}
 use Rattle.qtc_shared.specs.Rule.{learned}
 use Rattle.qtc_shared.specs.Inside.{pass_at_seat, journal_of, book_with}
 use Rattle.qtc_shared.proofs.Seats.{at_table, has_word}

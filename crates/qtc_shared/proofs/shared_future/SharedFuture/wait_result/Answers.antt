@@ -1,4 +1,4 @@
-use Rattle.std.proofs.Common.{ap, ◌∙◌, rules}
+use Rattle.std.proofs.Common.{ap, ◌∙◌}
 use Rattle.qtc_shared.proofs.Chains.{continues_further, holds_continue, nothing_done}
 use Rattle.qtc_shared.proofs.shared_future.SharedFuture.wait_result.Goals as goal
 

@@ -1,4 +1,4 @@
-use Rattle.std.proofs.Common.{rules, ◌≡◌, ◌-◌, get_or, slice_get, ap, sym, ◌∙◌, subst}
+use Rattle.std.proofs.Common.{rules, ◌-◌, get_or, slice_get, ap, sym, ◌∙◌, subst}
 use Rattle.std.specs.List.{flat_map}
 use Rattle.std.proofs.lemmas.List.Sorted.{IsPartitionPoint-from_clause, IsPartitionedBy-leb}
 use Rattle.qtc_store.specs.Batches.{values_of}

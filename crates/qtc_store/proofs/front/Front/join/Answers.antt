@@ -1,6 +1,6 @@
-use Rattle.std.proofs.Common.{◌≡◌, ◌+◌, ◌∷◌, [], ◌++◌, length, max, All, ap, sym, ◌∙◌, subst, append_assoc, arith}
+use Rattle.std.proofs.Common.{◌∷◌, [], ◌++◌, length, All, ap, sym, ◌∙◌, subst, append_assoc, arith}
 use Rattle.std.proofs.lemmas.List.Elements.{All-tail}
-use Rattle.qtc_store.specs.Batches.{end_of, greatest_end}
+use Rattle.qtc_store.specs.Batches.{greatest_end}
 use Rattle.qtc_store.specs.Inside.{met_in, waiting_in}
 use Rattle.qtc_store.specs.Visible.{meeting}
 use Rattle.qtc_store.proofs.Meeting.{meeting-next}

@@ -1,6 +1,6 @@
-use Rattle.std.proofs.Common.{◌≡◌, ◌+◌, ◌∷◌, [], ◌++◌, is_ok, if◌then◌else◌, length, ap, sym, ◌∙◌, subst, arith}
+use Rattle.std.proofs.Common.{◌≡◌, ◌∷◌, [], ◌++◌, is_ok, if◌then◌else◌, length, ap, sym, ◌∙◌, subst, arith}
 use Rattle.std.specs.List.{flat_map}
-use Rattle.qtc_store.specs.Batches.{values_of, end_of}
+use Rattle.qtc_store.specs.Batches.{values_of}
 use Rattle.qtc_store.specs.Visible.{meeting_end}
 use Rattle.qtc_store.specs.Inside.{AreMet, AreFirsts, met_in, batches_of}
 use Rattle.qtc_store.proofs.FrontLemmas.{met_push, met_end_push, batches_push, values_len_push, firsts_push}

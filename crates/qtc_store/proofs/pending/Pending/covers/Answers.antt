@@ -1,4 +1,4 @@
-use Rattle.std.proofs.Common.{◌≡◌, Some, None, ap, sym, ◌∙◌, arith}
+use Rattle.std.proofs.Common.{sym, arith}
 use Rattle.qtc_store.specs.Inside.{waiting_in}
 use Rattle.qtc_store.proofs.PendingLemmas.{split_at, none_split, covered_in_split, covered_in_none, end_in_split}
 use Rattle.qtc_store.proofs.pending.Pending.covers.Goals as goal

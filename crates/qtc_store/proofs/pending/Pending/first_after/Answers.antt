@@ -1,4 +1,4 @@
-use Rattle.std.proofs.Common.{◌≡◌, ◌++◌, ◌∷◌, [], map, Some, None, slice_get, ap, sym, ◌∙◌}
+use Rattle.std.proofs.Common.{map, slice_get, ap, sym, ◌∙◌}
 use Rattle.qtc_store.proofs.PendingLemmas.{batch_at, entries_after}
 use Rattle.qtc_store.proofs.pending.Pending.first_after.Goals as goal
 

@@ -1,4 +1,4 @@
-use Rattle.std.proofs.Common.{◌≡◌, ◌+◌, ◌<◌, ◌≤◌, Some, None, option_copied, ap, sym, ◌∙◌, arith}
+use Rattle.std.proofs.Common.{option_copied, ap, sym, ◌∙◌, arith}
 use Rattle.qtc_store.specs.Inside.{waiting_in}
 use Rattle.qtc_store.proofs.PendingLemmas.{least_within, least_past, least_none}
 use Rattle.qtc_store.proofs.pending.Pending.first_covered.Goals as goal

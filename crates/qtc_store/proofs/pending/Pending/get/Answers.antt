@@ -1,4 +1,4 @@
-use Rattle.std.proofs.Common.{◌≡◌, ◌-◌, Some, None, slice_get, ap, sym, ◌∙◌}
+use Rattle.std.proofs.Common.{◌-◌, slice_get, ap, sym, ◌∙◌}
 use Rattle.qtc_store.specs.Inside.{waiting_in}
 use Rattle.qtc_store.proofs.PendingLemmas.{value_read, split_at, none_split, value_in_split, value_in_none}
 use Rattle.qtc_store.proofs.pending.Pending.get.Goals as goal

@@ -1,4 +1,4 @@
-use Rattle.std.proofs.Common.{[], map, None, ap, sym, ◌∙◌}
+use Rattle.std.proofs.Common.{map, None, ap, sym, ◌∙◌}
 use Rattle.std.specs.List.{last_or}
 use Rattle.qtc_store.proofs.PendingLemmas.{batch_at, entries_up_to, last_entry}
 use Rattle.qtc_store.proofs.pending.Pending.last_up_to.Goals as goal

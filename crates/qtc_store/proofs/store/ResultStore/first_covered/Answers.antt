@@ -1,4 +1,4 @@
-use Rattle.std.proofs.Common.{◌≡◌, None, ap, sym, ◌∙◌, arith}
+use Rattle.std.proofs.Common.{ap, sym, ◌∙◌, arith}
 use Rattle.qtc_store.specs.Batches.{least_covered}
 use Rattle.qtc_store.proofs.StoreLemmas.{least_met, least_past_end, least_waiting, waiting_apart, waiting_within}
 use Rattle.qtc_store.proofs.store.ResultStore.first_covered.Goals.{then-total-eq0-via-then-total-eq0, then-total-eq0-via-else-total-eq0+then-begin-self}

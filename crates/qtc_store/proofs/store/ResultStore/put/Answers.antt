@@ -1,4 +1,4 @@
-use Rattle.std.proofs.Common.{◌≡◌, ◌+◌, ◌∷◌, [], ◌++◌, max, ap, sym, ◌∙◌, subst, arith}
+use Rattle.std.proofs.Common.{◌≡◌, ◌+◌, ◌∷◌, [], ◌++◌, max, ap, sym, ◌∙◌, subst}
 use Rattle.qtc_store.specs.Inside.{batches_of, met_in, waiting_in, batches_in, IsLaid}
 use Rattle.qtc_store.specs.Stored.{KeepsResults}
 use Rattle.qtc_store.specs.Visible.{meeting}

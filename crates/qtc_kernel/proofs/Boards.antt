@@ -1,12 +1,12 @@
 -- What stays true of the board of an engine.
-use Rattle.std.proofs.Common.{◌≡◌, ℕ, ◌+◌, ◌-◌, ◌<◌, ◌≤◌, min, Bool, true, false, not, ◌&&◌, ◌||◌, ◌==◌, nat_lt, List, [], ◌∷◌, ◌++◌, Option, None, Some, All, cond, map, length, Result, Ok, Err, IfOk, OnErr, if◌then◌else◌, inl, inr, refl, ap, sym, ◌∙◌, subst, arith}
+use Rattle.std.proofs.Common.{◌≡◌, ◌↔◌, ℕ, ◌+◌, ◌-◌, ◌<◌, ◌≤◌, min, Bool, true, false, not, ◌&&◌, ◌||◌, ◌==◌, nat_lt, List, [], ◌∷◌, ◌++◌, Option, None, Some, All, IsTrue, cond, map, length, Result, Ok, Err, IfOk, OnErr, if◌then◌else◌, inl, inr, refl, ap, sym, ◌∙◌, subst, arith}
 use Rattle.std.specs.Prelude.{Contains}
 use Rattle.std.specs.List.{list_any}
 use Rattle.std.proofs.lemmas.Bool.{cases_lt, false≢true}
 use Rattle.std.proofs.lemmas.Bool.Decides.{nat_tests}
 use Rattle.std.proofs.lemmas.List.{map-append}
 use Rattle.std.proofs.lemmas.List.Sums.{sum_by_push}
-use Rattle.std.proofs.lemmas.List.Elements.{All-cons, All-head, All-nil, All-push, All-tail, All-weaker, Contains-append_left, Contains-push}
+use Rattle.std.proofs.lemmas.List.Elements.{All-cons, All-contains, All-head, All-nil, All-push, All-tail, All-weaker, Contains-append_left, Contains-push, Contains-push_cases}
 use native.Mathlib.Decide.{dec_lt}
 use Rattle.qtc_base.specs.Ranges.{in_range, times_covered}
 use Rattle.qtc_claim.specs.Claims.{Addition, clipped}
@@ -17,14 +17,14 @@ use Rattle.qtc_store.specs.declared.batch.Batch.{Batch}
 use Rattle.qtc_store.specs.Stored.{batch_with}
 use Rattle.qtc_store.proofs.Offers.{is_covered-in_order}
 use Rattle.qtc_future.specs.Answering.{IsStep}
-use Rattle.qtc_future.specs.Future.{Future, Logged, batch_of, batches_in, reports_of, results_of}
+use Rattle.qtc_future.specs.Future.{Future, Logged, batches_in, reports_of, results_of}
 use Rattle.qtc_future.specs.Steps.{PastEnd, Stepped, accepted, dropped, has_ended, judged, offered, stays, step, told_by, with_call, with_report}
 use Rattle.qtc_future.specs.declared.replies.Reply.{Reply}
 use Rattle.qtc_future.specs.declared.requests.Request.TheVariants.{ReportBatch}
 use Rattle.qtc_ops.specs.ItemValue.{ItemValue}
 use Rattle.qtc_shared.specs.Journals.{BeginsWith, calls_by, flags_at}
 use Rattle.qtc_shared.specs.Parts.{future_at}
-use Rattle.qtc_shared.specs.Passes.{IsHold, Meets, PassState, Stays}
+use Rattle.qtc_shared.specs.Passes.{IsHold, Meets, PassState, Stays, is_accepted}
 use Rattle.qtc_shared.proofs.Prefixes.{begins_further, saw_begins}
 use Rattle.qtc_kernel.specs.EngineParts.{EngineParts, IsBoard, FitTogether, IsLeft, IsOfPiece, KnowsEnd, is_report, is_strange, opening, ranges_by, reporter, shows_end, work_of}
 use Rattle.qtc_kernel.specs.Runs.{IsBlock, range_of}
@@ -33,9 +33,10 @@ use Rattle.qtc_kernel.specs.Workload.{Workload, first_bad, size_of, texts_in}
 use Rattle.qtc_kernel.proofs.Asking.{reported}
 use Rattle.qtc_kernel.proofs.Counted.{IsPart}
 use Rattle.qtc_kernel.proofs.Finding.{found_within}
-use Rattle.qtc_kernel.proofs.Gathering.{among_cover}
+use Rattle.qtc_kernel.proofs.Counting.{covers, covers_begin, times-cons}
+use Rattle.qtc_kernel.proofs.Gathering.{all_left, among_cover, contained_covers}
 use Rattle.qtc_kernel.proofs.Kept.{texts-most, texts-whole}
-use Rattle.qtc_kernel.proofs.Passing.{Journal, begins_more, calls_by-append, contained_on, end_stays, no_batch, own_call, ranges_by-append, strange_on}
+use Rattle.qtc_kernel.proofs.Passing.{Journal, begins_more, calls_by-append, contained_on, end_stays, no_batch, own_call, ranges_by-append, reports-append, strange_on}
 use Rattle.qtc_kernel.proofs.Sound.{batch_in, batch_range}
 use Rattle.qtc_kernel.proofs.Tiled.{none_covers}
 
@@ -65,9 +66,9 @@ none_strange number (logged ∷ journal) none =
 
 -- an end stands; or an index of the batch is covered; or the batch is logged
 pub data Comes (future : Future (List ℕ)) (caller : ℕ) (batch : Batch (List ℕ)) (stepped : Stepped (List ℕ)) : Type 0 where
-  is_over : has_ended future ≡ true → stepped.future ≡ future → is_drop stepped.told ≡ true → Comes future caller batch stepped
-  is_taken : (index : ℕ) → least_covered (results_of future).batches batch.begin batch.total ≡ Some index → stepped.future ≡ future → is_drop stepped.told ≡ false → Comes future caller batch stepped
-  is_logged : stepped.future ≡ with_call future (reported future caller batch) → is_drop stepped.told ≡ false → Comes future caller batch stepped
+  is_over : has_ended future ≡ true → stepped.future ≡ future → is_drop stepped.told ≡ true → is_accepted stepped.told ≡ false → Comes future caller batch stepped
+  is_taken : (index : ℕ) → least_covered (results_of future).batches batch.begin batch.total ≡ Some index → stepped.future ≡ future → is_drop stepped.told ≡ false → is_accepted stepped.told ≡ false → Comes future caller batch stepped
+  is_logged : stepped.future ≡ with_call future (reported future caller batch) → is_drop stepped.told ≡ false → is_accepted stepped.told ≡ true → Comes future caller batch stepped
 
 chosen : (future : Future (List ℕ)) (caller : ℕ) (batch : Batch (List ℕ)) (b : Bool) (x y : Stepped (List ℕ)) → (b ≡ true → Comes future caller batch x) → (b ≡ false → Comes future caller batch y) → Comes future caller batch (if b then x else y)
 chosen future caller batch true x y h k = h refl
@@ -77,11 +78,11 @@ some_logged : (future : Future (List ℕ)) (caller : ℕ) (batch : Batch (List �
 some_logged future caller batch some = let is : (batch.total == 0) ≡ false = grind (arith, nat_tests) in rw is refl
 
 judged_comes : (future : Future (List ℕ)) (caller : ℕ) (batch : Batch (List ℕ)) → 0 < batch.total → end_of batch ≤ most_end → (least : Option ℕ) → least_covered (results_of future).batches batch.begin batch.total ≡ least → Comes future caller batch (judged future caller batch least)
-judged_comes future caller batch some within (Some index) e = is_taken index e refl refl
+judged_comes future caller batch some within (Some index) e = is_taken index e refl refl refl
 judged_comes future caller batch some within None e =
     chosen future caller batch (nat_lt most_end (end_of batch)) (stays future PastEnd) (accepted future caller batch)
     (λ h. absurd (past most_end (end_of batch) within h))
-    (λ h. is_logged (some_logged future caller batch some) refl)
+    (λ h. is_logged (some_logged future caller batch some) refl refl)
   where
     past : (most end : ℕ) → end ≤ most → nat_lt most end ≡ true → ⊥
     past most end within h = grind (arith, nat_tests)
@@ -89,8 +90,34 @@ judged_comes future caller batch some within None e =
 pub comes : (future : Future (List ℕ)) (caller : ℕ) (batch : Batch (List ℕ)) → 0 < batch.total → end_of batch ≤ most_end → Comes future caller batch (offered future caller batch)
 comes future caller batch some within =
     chosen future caller batch (has_ended future) (dropped future) (judged future caller batch (least_covered (results_of future).batches batch.begin batch.total))
-    (λ h. is_over h refl refl)
+    (λ h. is_over h refl refl refl)
     (λ h. judged_comes future caller batch some within (least_covered (results_of future).batches batch.begin batch.total) refl)
+
+-- ---- which pieces were reported
+
+module _ (n : ℕ) (range : ℕ × ℕ) (some : range.0 < range.1) where
+  -- a range that stands in a list is covered by it
+  covers_there : (ranges : List (ℕ × ℕ)) → Contains ranges range → 1 ≤ times_covered ranges range.0
+  covers_there ranges there =
+      let most = contained_covers range.0 ranges range there in
+      let one = covers_begin range some in
+      omega (arith, most, one)
+
+  -- pieces that leave its first index uncovered were reported before it
+  reported_before : (old : List (ℕ × ℕ)) (pieces : List Addition) → times_covered (map (clipped n) pieces) range.0 ≡ 0
+      → All (λ piece. Contains (old ++ range ∷ []) (clipped n piece)) pieces → All (λ piece. Contains old (clipped n piece)) pieces
+  reported_before old [] none all = All-nil (λ (piece : Addition). Contains old (clipped n piece))
+  reported_before old (piece ∷ pieces) none all =
+      let P : Addition → Type 0 = λ it. Contains (old ++ range ∷ []) (clipped n it) in
+      let counts = times-cons range.0 (clipped n piece) (map (clipped n) pieces) in
+      All-cons (λ (it : Addition). Contains old (clipped n it)) piece pieces
+      (elim (Contains-push_cases old range (clipped n piece) (All-head P piece pieces all)) [
+        | inl there ↦ there
+        | inr same ↦ absurd (
+            let one : covers range.0 (clipped n piece) ≡ 1 = subst (λ (r : ℕ × ℕ). covers range.0 r ≡ 1) same (covers_begin range some) in
+            omega (arith, counts, one, none))
+      ])
+      (reported_before old pieces (omega (arith, counts, none)) (All-tail P piece pieces all))
 
 -- ---- the board goes on
 
@@ -98,11 +125,18 @@ module _ {F : Type 0} (value : F → List ℕ → ItemValue) (parts : EnginePart
   n : ℕ
   n = parts.counter.n
 
+  -- what the mark tells where these ranges were reported
+  abbrev pub Marks : Bool → List (ℕ × ℕ) → List Addition → Type 0
+  Marks on ranges pieces = IsTrue on ↔ All (λ piece. Contains ranges (clipped parts.counter.n piece)) pieces
+
   -- the journal is met, and no call of the board's own comes to it
-  pub board_met : (tally : TallyState) (pass pass' : PassState (List ℕ)) (journal : Journal) → IsBoard value parts tally pass → Meets pass journal → pass'.known ≡ journal → pass' ≡ record pass { known = pass'.known; seen = [] } → IsBoard value parts tally pass'
-  board_met tally pass pass' journal board met known is =
+  pub board_met : (tally : TallyState) (pass pass' : PassState (List ℕ)) (on : Bool) (journal : Journal) → IsBoard value parts tally pass on → Meets pass journal → pass'.known ≡ journal → pass' ≡ record pass { known = pass'.known; seen = [] } → IsBoard value parts tally pass' on
+  board_met tally pass pass' on journal board met known is =
       let number : pass'.number ≡ pass.number = ap (λ (p : PassState (List ℕ)). p.number) is in
       let own : calls_by pass'.number pass'.known ≡ calls_by pass.number pass.known = ap (λ k. calls_by k pass'.known) number ∙ ap (calls_by pass.number) known ∙ met.own in
+      let same : ranges_by (reporter parts) pass'.known ≡ ranges_by (reporter parts) pass.known =
+      ap (λ k. ranges_by k pass'.known) (sym (number ∙ board.number)) ∙ ap (λ (calls : Journal). map range_of (reports_of calls)) own ∙ ap (λ k. ranges_by k pass.known) board.number
+      in
       record {
         counter = board.counter;
         future = ap (λ (p : PassState (List ℕ)). p.of) is ∙ board.future;
@@ -110,10 +144,11 @@ module _ {F : Type 0} (value : F → List ℕ → ItemValue) (parts : EnginePart
         childless = ap (λ (p : PassState (List ℕ)). p.children) is ∙ board.childless;
         opened = begins_further opening pass.known pass'.known board.opened (subst (λ k. BeginsWith k pass.known) (sym known) (saw_begins pass.known journal pass.seen met.saw));
         reports = subst (All (IsOfPiece (work_of value parts) parts.counter.n parts.sizes tally.pieces)) (sym own) board.reports;
+        mark = subst (λ ranges. Marks on ranges tally.pieces) (sym same) board.mark;
       }
 
-  pub board_stays : (tally : TallyState) (pass pass' : PassState (List ℕ)) → IsBoard value parts tally pass → IsHold pass pass' Stays → IsBoard value parts tally pass'
-  board_stays tally pass pass' board hold = board_met tally pass pass' hold.journal board hold.met (ap (λ (f : Future (List ℕ)). f.calls) hold.done) hold.pass
+  pub board_stays : (tally : TallyState) (pass pass' : PassState (List ℕ)) (on : Bool) → IsBoard value parts tally pass on → IsHold pass pass' Stays → IsBoard value parts tally pass' on
+  board_stays tally pass pass' on board hold = board_met tally pass pass' on hold.journal board hold.met (ap (λ (f : Future (List ℕ)). f.calls) hold.done) hold.pass
 
   -- more pieces are gathered
   of_pieces_more : (pieces more : List Addition) (logged : Logged (List ℕ)) → IsOfPiece (work_of value parts) parts.counter.n parts.sizes pieces logged → IsOfPiece (work_of value parts) parts.counter.n parts.sizes (pieces ++ more) logged
@@ -126,19 +161,22 @@ module _ {F : Type 0} (value : F → List ℕ → ItemValue) (parts : EnginePart
     gathered = subst (λ ranges. Contains ranges (range_of is.batch)) (sym (map-append (clipped parts.counter.n) pieces more)) (Contains-append_left (map (clipped parts.counter.n) pieces) (map (clipped parts.counter.n) more) (range_of is.batch) is.gathered);
   }
 
-  pub board_takes : (tally tally' : TallyState) (pass : PassState (List ℕ)) (more : List Addition) → IsBoard value parts tally pass → tally'.of ≡ tally.of → tally'.pieces ≡ tally.pieces ++ more → IsBoard value parts tally' pass
-  board_takes tally tally' pass more board of pieces = record {
+  pub reports_more : (pieces pieces' more : List Addition) (calls : Journal) → pieces' ≡ pieces ++ more → All (IsOfPiece (work_of value parts) parts.counter.n parts.sizes pieces) calls → All (IsOfPiece (work_of value parts) parts.counter.n parts.sizes pieces') calls
+  reports_more pieces pieces' more calls are all =
+      subst (λ (them : List Addition). All (IsOfPiece (work_of value parts) parts.counter.n parts.sizes them) calls) (sym are)
+      (All-weaker (IsOfPiece (work_of value parts) parts.counter.n parts.sizes pieces) (IsOfPiece (work_of value parts) parts.counter.n parts.sizes (pieces ++ more)) (of_pieces_more pieces more) calls all)
+
+  -- seats are gathered
+  pub board_seats : (tally tally' : TallyState) (pass : PassState (List ℕ)) (on : Bool) → IsBoard value parts tally pass on → tally'.of ≡ tally.of → tally'.pieces ≡ tally.pieces → IsBoard value parts tally' pass on
+  board_seats tally tally' pass on board of pieces = record {
     counter = of ∙ board.counter;
     future = board.future;
     number = board.number;
     childless = board.childless;
     opened = board.opened;
-    reports = subst (λ (all : List Addition). All (IsOfPiece (work_of value parts) parts.counter.n parts.sizes all) (calls_by pass.number pass.known)) (sym pieces)
-        (All-weaker (IsOfPiece (work_of value parts) parts.counter.n parts.sizes tally.pieces) (IsOfPiece (work_of value parts) parts.counter.n parts.sizes (tally.pieces ++ more)) (of_pieces_more tally.pieces more) (calls_by pass.number pass.known) board.reports);
+    reports = subst (λ (all : List Addition). All (IsOfPiece (work_of value parts) parts.counter.n parts.sizes all) (calls_by pass.number pass.known)) (sym pieces) board.reports;
+    mark = subst (λ (all : List Addition). Marks on (ranges_by (reporter parts) pass.known) all) (sym pieces) board.mark;
   }
-
-  pub board_gathers : (tally tally' : TallyState) (pass : PassState (List ℕ)) (piece : Addition) → IsBoard value parts tally pass → tally' ≡ record tally { pieces = tally.pieces ++ piece ∷ [] } → IsBoard value parts tally' pass
-  board_gathers tally tally' pass piece board is = board_takes tally tally' pass (piece ∷ []) board (ap (λ (t : TallyState). t.of) is) (ap (λ (t : TallyState). t.pieces) is)
 
   -- the ranges of its reports are those of gathered pieces
   pub reports_gathered : (pieces : List Addition) (calls : Journal) → All (IsOfPiece (work_of value parts) parts.counter.n parts.sizes pieces) calls → All (Contains (map (clipped parts.counter.n) pieces)) (map range_of (reports_of calls))
@@ -168,9 +206,9 @@ not_both counter tally tally' piece tally_is gathered index low high covered =
     inside index begin end low high = grind (arith, nat_tests)
 
 -- no report of a gathered piece covers a piece that is gathered next
-pub left_gathered : {F : Type 0} (value : F → List ℕ → ItemValue) (parts : EngineParts F) (tally tally' : TallyState) (pass own : PassState (List ℕ)) (piece : Addition) → IsBoard value parts tally pass → own.known ≡ pass.known → KnowsEnd own
+pub left_gathered : {F : Type 0} (value : F → List ℕ → ItemValue) (parts : EngineParts F) (tally tally' : TallyState) (pass own : PassState (List ℕ)) (on : Bool) (piece : Addition) → IsBoard value parts tally pass on → own.known ≡ pass.known → KnowsEnd own
     → tally' ≡ record tally { pieces = tally.pieces ++ piece ∷ [] } → IsGathered parts.counter tally' → IsLeft parts.counter.n (reporter parts) own piece
-left_gathered value parts tally tally' pass own piece board known ended tally_is gathered = record {
+left_gathered value parts tally tally' pass own on piece board known ended tally_is gathered = record {
   ended = ended;
   uncovered = λ index low high.
       ap (λ k. times_covered (ranges_by (reporter parts) k) index) known ∙ ap (λ number. times_covered (ranges_by number pass.known) index) (sym board.number)
@@ -182,6 +220,51 @@ left_gathered value parts tally tally' pass own piece board known ended tally_is
         absurd (not_both parts.counter tally tally' piece tally_is gathered index low high
         (among_cover index (ranges_by pass.number pass.known) (map (clipped parts.counter.n) tally.pieces) (reports_gathered value parts tally.pieces (calls_by pass.number pass.known) board.reports) more))
     none index low high (no few) = omega arith
+
+-- a piece that isn't gathered yet leaves its first index uncovered
+first_uncovered : (counter : CounterId) (tally tally' : TallyState) (piece : Addition) → tally' ≡ record tally { pieces = tally.pieces ++ piece ∷ [] } → IsGathered counter tally' → (range : ℕ × ℕ) → range ≡ clipped counter.n piece → range.0 < range.1
+    → times_covered (map (clipped counter.n) tally.pieces) range.0 ≡ 0
+first_uncovered counter tally tally' piece tally_is gathered range is some = by (dec_lt 0 (times_covered (map (clipped counter.n) tally.pieces) range.0))
+  where
+    by : Dec (0 < times_covered (map (clipped counter.n) tally.pieces) range.0) → times_covered (map (clipped counter.n) tally.pieces) range.0 ≡ 0
+    by (yes more) =
+        absurd (not_both counter tally tally' piece tally_is gathered range.0 (subst (λ (r : ℕ × ℕ). r.0 ≤ range.0) is (omega arith)) (subst (λ (r : ℕ × ℕ). range.0 < r.1) is some) more)
+    by (no none) = omega arith
+
+-- a piece is gathered that isn't reported
+pub board_leaves : {F : Type 0} (value : F → List ℕ → ItemValue) (parts : EngineParts F) (tally tally' : TallyState) (pass : PassState (List ℕ)) (on : Bool) (piece : Addition) → piece.begin < parts.counter.n → 1 ≤ piece.size → IsBoard value parts tally pass on
+    → tally' ≡ record tally { pieces = tally.pieces ++ piece ∷ [] } → IsGathered parts.counter tally' → IsBoard value parts tally' pass false
+board_leaves value parts tally tally' pass on piece below some board is gathered = record {
+  counter = ap (λ (t : TallyState). t.of) is ∙ board.counter;
+  future = board.future;
+  number = board.number;
+  childless = board.childless;
+  opened = board.opened;
+  reports = reports_more value parts tally.pieces tally'.pieces (piece ∷ []) (calls_by pass.number pass.known) pieces board.reports;
+  mark = (λ e. absurd (false≢true e), λ all. absurd (missing all));
+}
+  where
+    pieces : tally'.pieces ≡ tally.pieces ++ piece ∷ []
+    pieces = ap (λ (t : TallyState). t.pieces) is
+
+    range : ℕ × ℕ
+    range = clipped parts.counter.n piece
+
+    some_range : (m : ℕ) (it : Addition) → it.begin < m → 1 ≤ it.size → (clipped m it).0 < (clipped m it).1
+    some_range m it less one = omega arith
+
+    missing : All (λ it. Contains (ranges_by (reporter parts) pass.known) (clipped parts.counter.n it)) tally'.pieces → ⊥
+    missing all =
+        let P : Addition → Type 0 = λ it. Contains (ranges_by (reporter parts) pass.known) (clipped parts.counter.n it) in
+        let long = some_range parts.counter.n piece below some in
+        let there : P piece = All-contains P (tally.pieces ++ piece ∷ []) piece (subst (All P) pieces all) (Contains-push tally.pieces piece) in
+        let reported : 1 ≤ times_covered (ranges_by (reporter parts) pass.known) range.0 = covers_there parts.counter.n range long (ranges_by (reporter parts) pass.known) there in
+        let among : All (Contains (map (clipped parts.counter.n) tally.pieces)) (ranges_by (reporter parts) pass.known) =
+        subst (λ k. All (Contains (map (clipped parts.counter.n) tally.pieces)) (ranges_by k pass.known)) board.number (reports_gathered value parts tally.pieces (calls_by pass.number pass.known) board.reports)
+        in
+        let covered = among_cover range.0 (ranges_by (reporter parts) pass.known) (map (clipped parts.counter.n) tally.pieces) among reported in
+        let none = first_uncovered parts.counter tally tally' piece is gathered range refl long in
+        omega (arith, covered, none)
 
 -- ---- what was handed in
 
@@ -231,7 +314,7 @@ module _ {F : Type 0} (value : F → List ℕ → ItemValue) (parts : EnginePart
   pub values_whole : parts.future.terms.filter ≡ false → length (texts_in work range) ≡ range.1 - range.0
   values_whole plain = let p = part in let some = p.some in texts-whole work range.0 range.1 (omega arith) p.within (fits.suits plain) good
 
-  module _ (tally tally' : TallyState) (pass pass' : PassState (List ℕ)) (journal : Journal) (board : IsBoard value parts tally pass) (tally_is : tally' ≡ record tally { pieces = tally.pieces ++ piece ∷ [] }) (gathered : IsGathered parts.counter tally')
+  module _ (tally tally' : TallyState) (pass pass' : PassState (List ℕ)) (journal : Journal) (on : Bool) (board : IsBoard value parts tally pass on) (tally_is : tally' ≡ record tally { pieces = tally.pieces ++ piece ∷ [] }) (gathered : IsGathered parts.counter tally')
       (met : Meets pass journal) (pass_is : pass' ≡ record pass { known = pass'.known; seen = [] }) where
     abbrev future : Future (List ℕ)
     future = future_at pass.of.terms journal
@@ -262,8 +345,20 @@ module _ {F : Type 0} (value : F → List ℕ → ItemValue) (parts : EnginePart
           (subst (λ r. Contains (map (clipped parts.counter.n) tally.pieces ++ r ∷ []) (range_of batch)) (batch_is ∙ range_is) (Contains-push (map (clipped parts.counter.n) tally.pieces) (range_of batch)));
     }
 
+    -- a piece that is reported as it is gathered leaves the mark
+    marks_more : (old : List (ℕ × ℕ)) → Marks value parts on old tally.pieces → Marks value parts on (old ++ range ∷ []) (tally.pieces ++ piece ∷ [])
+    marks_more old mark = (
+      λ e. All-push More tally.pieces piece
+          (All-weaker (λ it. Contains old (clipped parts.counter.n it)) More (λ it there. Contains-append_left old (range ∷ []) (clipped parts.counter.n it) there) tally.pieces (mark.0 e))
+          (subst (Contains (old ++ range ∷ [])) range_is (Contains-push old range)),
+      λ all. mark.1 (reported_before parts.counter.n range part.some old tally.pieces (first_uncovered parts.counter tally tally' piece tally_is gathered range range_is part.some) (all_left More tally.pieces (piece ∷ []) all)),
+    )
+      where
+        More : Addition → Type 0
+        More it = Contains (old ++ range ∷ []) (clipped parts.counter.n it)
+
     -- the board where the report was logged
-    board_logged : pass'.known ≡ journal ++ logged ∷ [] → IsBoard value parts tally' pass'
+    board_logged : pass'.known ≡ journal ++ logged ∷ [] → IsBoard value parts tally' pass' on
     board_logged known =
         let P = IsOfPiece work parts.counter.n parts.sizes tally'.pieces in
         let number : pass'.number ≡ pass.number = ap (λ (p : PassState (List ℕ)). p.number) pass_is in
@@ -271,14 +366,19 @@ module _ {F : Type 0} (value : F → List ℕ → ItemValue) (parts : EnginePart
         ap (λ k. calls_by k pass'.known) number ∙ ap (calls_by pass.number) known ∙ calls_by-append pass.number journal (logged ∷ [])
         ∙ ap (λ calls. calls_by pass.number journal ++ calls) (own_call pass.number logged refl) ∙ ap (λ calls. calls ++ logged ∷ []) met.own
         in
-        let before = board_gathers value parts tally tally' pass piece board tally_is in
+        let same : ranges_by (reporter parts) pass'.known ≡ ranges_by (reporter parts) pass.known ++ range ∷ [] =
+        ap (λ k. ranges_by k pass'.known) (sym (number ∙ board.number)) ∙ ap (λ (calls : Journal). map range_of (reports_of calls)) own
+        ∙ ap (map range_of) (reports-append (calls_by pass.number pass.known) (logged ∷ [])) ∙ map-append range_of (reports_of (calls_by pass.number pass.known)) (batch ∷ [])
+        ∙ ap (λ r. ranges_by pass.number pass.known ++ r ∷ []) batch_is ∙ ap (λ k. ranges_by k pass.known ++ range ∷ []) board.number
+        in
         record {
-          counter = before.counter;
+          counter = ap (λ (t : TallyState). t.of) tally_is ∙ board.counter;
           future = ap (λ (p : PassState (List ℕ)). p.of) pass_is ∙ board.future;
           number = number ∙ board.number;
           childless = ap (λ (p : PassState (List ℕ)). p.children) pass_is ∙ board.childless;
           opened = begins_further opening pass.known pass'.known board.opened (begins_further pass.known journal pass'.known (saw_begins pass.known journal pass.seen met.saw) (subst (λ k. BeginsWith k journal) (sym known) (begins_more journal (logged ∷ []))));
-          reports = subst (All P) (sym own) (All-push P (calls_by pass.number pass.known) logged before.reports logged_is);
+          reports = subst (All P) (sym own) (All-push P (calls_by pass.number pass.known) logged (reports_more value parts tally.pieces tally'.pieces (piece ∷ []) (calls_by pass.number pass.known) pieces_are board.reports) logged_is);
+          mark = subst (λ ranges. Marks value parts on ranges tally'.pieces) (sym same) (subst (Marks value parts on (ranges_by (reporter parts) pass.known ++ range ∷ [])) (sym pieces_are) (marks_more (ranges_by (reporter parts) pass.known) board.mark));
         }
 
     contains_logged : pass'.known ≡ journal ++ logged ∷ [] → Contains (ranges_by pass.number pass'.known) range
@@ -315,7 +415,7 @@ module _ {F : Type 0} (value : F → List ℕ → ItemValue) (parts : EnginePart
             by (no none) covered = absurd (false≢true (sym (none_covers (reports_of (calls_by pass.number pass.known)) index (omega arith)) ∙ covered))
 
     pub board_reports : (reply : Reply) → IsStep (offered future pass.number batch) (future_at pass.of.terms pass'.known) (told_by reply)
-        → IsBoard value parts tally' pass' × IsHandedIn (reporter parts) pass'.known range (not (is_drop (told_by reply)))
+        → IsBoard value parts tally' pass' (on && is_accepted (told_by reply)) × IsHandedIn (reporter parts) pass'.known range (not (is_drop (told_by reply)))
     board_reports reply done =
         let p = part in
         let some_left = p.some in
@@ -323,23 +423,35 @@ module _ {F : Type 0} (value : F → List ℕ → ItemValue) (parts : EnginePart
         let limit = fits.limits.indexes in
         let is = fits.indexes in
         elim (comes future pass.number batch (omega arith) (omega arith)) [
-          | is_over ended same drop ↦
+          | is_over ended same drop taken ↦
               let known : pass'.known ≡ journal = ap (λ (f : Future (List ℕ)). f.calls) (done.future ∙ same) in (
-                board_gathers value parts tally tally' pass' piece (board_met value parts tally pass pass' journal board met known pass_is) tally_is,
+                marked_none (ap is_accepted done.answer ∙ taken) (board_leaves value parts tally tally' pass' on piece below some (board_met value parts tally pass pass' on journal board met known pass_is) tally_is gathered),
                 told true (ap is_drop done.answer ∙ drop) (ap (λ k. shows_end (flags_at k)) known ∙ ended),
               )
-          | is_taken index e same drop ↦
+          | is_taken index e same drop taken ↦
               let known : pass'.known ≡ journal = ap (λ (f : Future (List ℕ)). f.calls) (done.future ∙ same) in (
-                board_gathers value parts tally tally' pass' piece (board_met value parts tally pass pass' journal board met known pass_is) tally_is,
+                marked_none (ap is_accepted done.answer ∙ taken) (board_leaves value parts tally tally' pass' on piece below some (board_met value parts tally pass pass' on journal board met known pass_is) tally_is gathered),
                 told false (ap is_drop done.answer ∙ drop) (inr (subst (λ k. list_any (is_strange k) pass'.known ≡ true) board.number (ap (list_any (is_strange pass.number)) known ∙ covered_strange index e))),
               )
-          | is_logged new drop ↦
+          | is_logged new drop taken ↦
               let known : pass'.known ≡ journal ++ logged ∷ [] = ap (λ (f : Future (List ℕ)). f.calls) (done.future ∙ new) in (
-                board_logged known,
+                marked_on (ap is_accepted done.answer ∙ taken) (board_logged known),
                 told false (ap is_drop done.answer ∙ drop) (inl (subst (λ k. Contains (ranges_by k pass'.known) range) board.number (contains_logged known))),
               )
         ]
       where
+        and_false : (b : Bool) → (b && false) ≡ false
+        and_false b = grind arith
+
+        and_true : (b : Bool) → (b && true) ≡ b
+        and_true b = grind arith
+
+        marked_none : is_accepted (told_by reply) ≡ false → IsBoard value parts tally' pass' false → IsBoard value parts tally' pass' (on && is_accepted (told_by reply))
+        marked_none e is = subst (IsBoard value parts tally' pass') (sym (ap (λ b. on && b) e ∙ and_false on)) is
+
+        marked_on : is_accepted (told_by reply) ≡ true → IsBoard value parts tally' pass' on → IsBoard value parts tally' pass' (on && is_accepted (told_by reply))
+        marked_on e is = subst (IsBoard value parts tally' pass') (sym (ap (λ b. on && b) e ∙ and_true on)) is
+
         told : (drop : Bool) → is_drop (told_by reply) ≡ drop → IsHandedIn (reporter parts) pass'.known range (not drop) → IsHandedIn (reporter parts) pass'.known range (not (is_drop (told_by reply)))
         told drop e handed = subst (λ b. IsHandedIn (reporter parts) pass'.known range (not b)) (sym e) handed
 
@@ -378,10 +490,10 @@ module _ {F : Type 0} (value : F → List ℕ → ItemValue) (parts : EnginePart
       let long : length values ≡ length (texts_in (work_of value parts) (range_in parts piece)) = ap length values_are in
       omega (arith, whole, first, last, long)
 
-  pub code_reports : (tally tally' : TallyState) (pass pass' : PassState (List ℕ)) (journal : Journal) → IsBoard value parts tally pass → tally' ≡ record tally { pieces = tally.pieces ++ piece.addition ∷ [] } → IsGathered parts.counter tally'
+  pub code_reports : (tally tally' : TallyState) (pass pass' : PassState (List ℕ)) (journal : Journal) (on : Bool) → IsBoard value parts tally pass on → tally' ≡ record tally { pieces = tally.pieces ++ piece.addition ∷ [] } → IsGathered parts.counter tally'
       → Meets pass journal → pass' ≡ record pass { known = pass'.known; seen = [] } → (reply : Reply)
       → IsStep (step (future_at pass.of.terms journal) pass.number (ReportBatch begin values (end - begin))) (future_at pass.of.terms pass'.known) (told_by reply)
-      → IsBoard value parts tally' pass' × IsHandedIn (reporter parts) pass'.known (range_in parts piece) (not (is_drop (told_by reply)))
-  code_reports tally tally' pass pass' journal board tally_is gathered met pass_is reply done =
-      board_reports value parts fits piece.addition is.below is.some is.listed (range_in parts piece) refl good tally tally' pass pass' journal board tally_is gathered met pass_is reply
+      → IsBoard value parts tally' pass' (on && is_accepted (told_by reply)) × IsHandedIn (reporter parts) pass'.known (range_in parts piece) (not (is_drop (told_by reply)))
+  code_reports tally tally' pass pass' journal on board tally_is gathered met pass_is reply done =
+      board_reports value parts fits piece.addition is.below is.some is.listed (range_in parts piece) refl good tally tally' pass pass' journal on board tally_is gathered met pass_is reply
       (subst (λ batch. IsStep (offered (future_at pass.of.terms journal) pass.number batch) (future_at pass.of.terms pass'.known) (told_by reply)) (batch_is_in (work_of value parts) (range_in parts piece) begin end values bounds_are values_are) done)

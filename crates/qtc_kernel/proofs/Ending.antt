@@ -6,7 +6,7 @@ use native.Mathlib.Decide.{dec_lt}
 use Rattle.std.proofs.lemmas.Bool.{false≢true}
 use Rattle.std.proofs.lemmas.Bool.Decides.{nat_tests}
 use Rattle.std.proofs.lemmas.List.{map-append}
-use Rattle.std.proofs.lemmas.List.Elements.{All-append, All-cons, All-head, All-map, All-nil, All-push, All-tail, All-weaker, Contains-append_cases, Contains-append_left, Contains-append_right}
+use Rattle.std.proofs.lemmas.List.Elements.{All-append, All-cons, All-head, All-map, All-nil, All-push, All-tail, All-weaker}
 use Rattle.qtc_base.specs.Ranges.{Tiles, in_range, times_covered}
 use Rattle.qtc_claim.specs.Claims.{Addition, claims_of, clipped, gave}
 use Rattle.qtc_claim.specs.Counter.{TallyState}
@@ -23,6 +23,7 @@ use Rattle.qtc_store.specs.declared.batch.Batch.{Batch}
 use Rattle.qtc_store.proofs.First.{first_results}
 use Rattle.qtc_store.proofs.Keeping.{batches_keep_results}
 use Rattle.qtc_store.proofs.Offers.{is_covered-in_order}
+use Rattle.qtc_future.specs.Legal.{IsLegal}
 use Rattle.qtc_future.specs.Future.{Future, Logged, batch_of, batches_in, failure_in, failure_of_call, flags_of, reports_of, results_of}
 use Rattle.qtc_future.specs.declared.replies.Failure.{Failure}
 use Rattle.qtc_future.proofs.Staying.{legal_store}
@@ -30,14 +31,13 @@ use Rattle.qtc_shared.specs.Journals.{IsAllowed, IsJournal, calls_by, flags_at, 
 use Rattle.qtc_shared.specs.Parts.{Terms, future_at}
 use Rattle.qtc_kernel.specs.EngineParts.{IsFailedCall, IsOfPiece, IsOwnCall, is_own, ranges_by}
 use Rattle.qtc_kernel.specs.BroughtIn.{AreBroughtIn, DesksAreWorkedOut, IsUncovered}
-use Rattle.qtc_kernel.specs.Gathering.{AreOfPieces, NoneIsMissing, gathered_ranges}
-use Rattle.qtc_kernel.specs.Laws.{AreCalledOnce, IsFailing}
+use Rattle.qtc_kernel.specs.Laws.{AreCalledOnce}
 use Rattle.qtc_kernel.specs.Runs.{HasTexts, IsBlock, range_of, reported_ranges, times_called}
 use Rattle.qtc_kernel.specs.WorkedOut.{IsOfOthers, IsWhole, IsWorkedOut}
 use Rattle.qtc_kernel.specs.Workload.{Workload, first_bad, is_bad, item_at, kept_texts, size_of}
 use Rattle.qtc_kernel.proofs.Counting.{covers, times-append, times-cons}
 use Rattle.qtc_kernel.proofs.Finding.{none_bad}
-use Rattle.qtc_kernel.proofs.Gathering.{among_cover, none_is_missing}
+use Rattle.qtc_kernel.proofs.Gathering.{all_left, among_cover}
 use Rattle.qtc_kernel.proofs.Kept.{texts-all}
 use Rattle.qtc_kernel.proofs.Passing.{Journal, reports-append}
 use Rattle.qtc_kernel.proofs.Asking.{canceled_stays}
@@ -249,25 +249,28 @@ outside_of index begin end e = grind (arith, nat_tests)
 
 -- ---- all together
 
-pub all_left : {X : Type 0} (P : X → Type 0) (xs ys : List X) → All P (xs ++ ys) → All P xs
-all_left P [] ys all = All-nil P
-all_left P (x ∷ xs) ys all = All-cons P x xs (All-head P x (xs ++ ys) all) (all_left P xs ys (All-tail P x (xs ++ ys) all))
-
--- what one number reported was reported
-among_all : (number : ℕ) (journal : Journal) (range : ℕ × ℕ) → Contains (ranges_by number journal) range → Contains (map range_of (reports_of journal)) range
-among_all number [] range there = there
-among_all number (logged ∷ journal) range there =
-    elim (logged.entry.caller == number) as (λ b. Contains (map range_of (reports_of (if b then logged ∷ calls_by number journal else calls_by number journal))) range → Contains (map range_of (batches_in logged ++ reports_of journal)) range) [
-      | true ↦ λ h.
-          elim (Contains-append_cases (map range_of (batches_in logged)) (ranges_by number journal) range (subst (λ rs. Contains rs range) (map-append range_of (batches_in logged) (reports_of (calls_by number journal))) h)) [
-            | inl here ↦ back (Contains-append_left (map range_of (batches_in logged)) (map range_of (reports_of journal)) range here)
-            | inr later ↦ back (Contains-append_right (map range_of (batches_in logged)) (map range_of (reports_of journal)) range (among_all number journal range later))
-          ]
-      | false ↦ λ h. back (Contains-append_right (map range_of (batches_in logged)) (map range_of (reports_of journal)) range (among_all number journal range h))
-    ] there
+-- what one number reported covers no more than what all did
+pub times_by : (number : ℕ) (journal : Journal) (index : ℕ) → times_covered (ranges_by number journal) index ≤ times_covered (map range_of (reports_of journal)) index
+times_by number [] index = omega arith
+times_by number (logged ∷ journal) index =
+    let rest = times_by number journal index in
+    let all = times_both (batches_in logged) (reports_of journal) in
+    elim (logged.entry.caller == number) as (λ b. times_covered (map range_of (reports_of (if b then logged ∷ calls_by number journal else calls_by number journal))) index ≤ times_covered (map range_of (batches_in logged ++ reports_of journal)) index) [
+      | true ↦ let some = times_both (batches_in logged) (reports_of (calls_by number journal)) in omega (arith, rest, all, some)
+      | false ↦ omega (arith, rest, all)
+    ]
   where
-    back : Contains (map range_of (batches_in logged) ++ map range_of (reports_of journal)) range → Contains (map range_of (batches_in logged ++ reports_of journal)) range
-    back h = subst (λ rs. Contains rs range) (sym (map-append range_of (batches_in logged) (reports_of journal))) h
+    times_both : (xs ys : List (Batch (List ℕ))) → times_covered (map range_of (xs ++ ys)) index ≡ times_covered (map range_of xs) index + times_covered (map range_of ys) index
+    times_both xs ys = ap (λ ranges. times_covered ranges index) (map-append range_of xs ys) ∙ times-append index (map range_of xs) (map range_of ys)
+
+-- each index was reported once at most
+pub reported_once : (future : Future (List ℕ)) → IsLegal future → (index : ℕ) → times_covered (reported_ranges future) index ≤ 1
+reported_once future legal index =
+    let store = legal_store (batches_keep_results _) future legal in
+    let once = apart_once index 0 (in_order (reports_of future.calls)) store.apart in
+    let same = times_fold index [] (reports_of future.calls) in
+    let none : times_covered (map range_of []) index ≡ 0 = refl in
+    omega (arith, once, same, none)
 
 -- an index of a good batch has no bad item
 good_at : (work : Workload) (n : ℕ) (sizes : List ℕ) (pieces : List Addition) (batches : List (Batch (List ℕ))) (index : ℕ) → All (IsGood work n sizes pieces) batches → 1 ≤ times_covered (map range_of batches) index → is_bad (work.value (item_at work index)) ≡ false
@@ -319,13 +322,7 @@ module _ (job : Workload) (shares : List ℕ) (terms : Terms) (journal : Journal
   ranges_are = ap (map range_of) reports_are
 
   apart : (index : ℕ) → times_covered (map range_of (reports_of journal)) index ≤ 1
-  apart index =
-      let store = legal_store (batches_keep_results _) future lawful.legal in
-      let once = apart_once index 0 (in_order (reports_of whole)) store.apart in
-      let same = times_fold index [] (reports_of whole) in
-      let is : times_covered (map range_of (reports_of whole)) index ≡ times_covered (map range_of (reports_of journal)) index = ap (λ batches. times_covered (map range_of batches) index) reports_are in
-      let none : times_covered (map range_of []) index ≡ 0 = refl in
-      omega arith
+  apart index = subst (λ ranges. times_covered ranges index ≤ 1) ranges_are (reported_once future lawful.legal index)
 
   of_pieces : All (Contains (map (clipped m) tally.pieces)) (map range_of (reports_of journal))
   of_pieces =
@@ -380,17 +377,12 @@ module _ (job : Workload) (shares : List ℕ) (terms : Terms) (journal : Journal
     going_then : (flags_at journal).canceled ≡ false
     going_then = going_before (flags_at journal).canceled (flags_of future).canceled (canceled_stays (future_at terms journal) finish) going
 
-    are : AreOfPieces tally (map range_of (reports_of journal))
-    are = record {
-      claims = All-weaker (λ claim. Contains (ranges_by tally.of.workers journal) (clipped m claim)) (λ claim. Contains (map range_of (reports_of journal)) (clipped m claim)) (λ claim. among_all tally.of.workers journal (clipped m claim)) (gave m claims) (b.reported going_then);
-      pieces = of_pieces;
-    }
-
-    none_missing : NoneIsMissing tally (map range_of (reports_of journal))
-    none_missing = none_is_missing tally (map range_of (reports_of journal)) b.gathered b.knows (b.claimed going_then) are
-
     each : (index : ℕ) → index < size_of job → times_covered (map range_of (reports_of journal)) index ≡ 1
-    each index less = let some = none_missing.covered index (let is = b.indexes in omega arith) in let few = apart index in omega arith
+    each index less =
+        let one = (b.tiled going_then).once index (let is = b.indexes in omega arith) in
+        let most = times_by tally.of.workers journal index in
+        let few = apart index in
+        omega (arith, one, most, few)
 
     past_none : (index : ℕ) → size_of job ≤ index → times_covered (map range_of (reports_of journal)) index ≡ 0
     past_none index past = within index (let is = b.indexes in omega arith)

@@ -1,9 +1,9 @@
 -- The law of claims and reports.
-use Rattle.std.proofs.Common.{◌≡◌, ℕ, zero, suc, ◌<◌, ◌≤◌, Bool, true, false, cond, nat_lt, nat_le, List, [], ◌∷◌, All, map, refl, ap, arith, sum_by}
+use Rattle.std.proofs.Common.{◌≡◌, ℕ, zero, suc, ◌<◌, ◌≤◌, Bool, true, false, cond, nat_lt, nat_le, List, [], ◌∷◌, ◌++◌, All, map, refl, ap, arith, sum_by}
 use Rattle.std.specs.Prelude.{Contains}
 use Rattle.std.proofs.lemmas.Bool.Decides.{nat_tests}
 use Rattle.std.proofs.lemmas.List.Sums.{sum_by-cons}
-use Rattle.std.proofs.lemmas.List.Elements.{All-head, All-tail, All-contains, All-map}
+use Rattle.std.proofs.lemmas.List.Elements.{All-cons, All-head, All-nil, All-tail, All-contains, All-map}
 use native.Mathlib.Decide.{dec_lt}
 use Rattle.qtc_base.specs.Ranges.{in_range, times_covered}
 use Rattle.qtc_claim.specs.Claims.{Addition, Worker, added, claims_of, clipped, gave}
@@ -11,6 +11,12 @@ use Rattle.qtc_claim.specs.Counter.{TallyState, IsGathered, KnowsClaims, added_b
 use Rattle.qtc_claim.specs.Rule.{blank, covers, covering}
 use Rattle.qtc_claim.proofs.Sums.{blank_below, gave_and_blank, sum_by_none, times_below, times_past}
 use Rattle.qtc_kernel.specs.Gathering.{AreOfPieces, IsClaimed, NoneIsMissing, ReportsMeetClaims, gathered_ranges}
+
+-- ---- lists
+
+pub all_left : {X : Type 0} (P : X → Type 0) (xs ys : List X) → All P (xs ++ ys) → All P xs
+all_left P [] ys all = All-nil P
+all_left P (x ∷ xs) ys all = All-cons P x xs (All-head P x (xs ++ ys) all) (all_left P xs ys (All-tail P x (xs ++ ys) all))
 
 -- ---- ranges among ranges
 

@@ -18,4 +18,6 @@ pub mod Turning
 pub mod AtWork
 pub mod Opening
 pub mod Ending
+pub mod Ended
+pub mod Returning
 pub mod Settling

@@ -1,5 +1,5 @@
 -- A new engine, and its desks.
-use Rattle.std.proofs.Common.{◌≡◌, ℕ, zero, suc, ◌+◌, ◌<◌, ◌≤◌, ◌==◌, Bool, false, List, [], ◌∷◌, ◌++◌, Option, Some, IfSome, All, length, slice_get, option_to_list, inl, refl, ap, sym, ◌∙◌, subst, arith, length-append}
+use Rattle.std.proofs.Common.{◌≡◌, ℕ, zero, suc, ◌+◌, ◌<◌, ◌≤◌, ◌==◌, Bool, true, false, List, [], ◌∷◌, ◌++◌, Option, Some, IfSome, All, length, slice_get, option_to_list, inl, refl, ap, sym, ◌∙◌, subst, arith, length-append}
 use Rattle.std.specs.Prelude.{Contains}
 use Rattle.qtc_kernel.specs.Runs.{times_called}
 use Rattle.std.proofs.Math.Nat.{mod-eq_of_lt}
@@ -20,7 +20,7 @@ use Rattle.qtc_shared.specs.Journals.{BeginsWith, calls_by}
 use Rattle.qtc_shared.specs.Parts.{Terms}
 use Rattle.qtc_shared.specs.Passes.{FutureId, IsShared, PassState, pass_at}
 use Rattle.qtc_shared.proofs.Prefixes.{begins_same}
-use Rattle.qtc_kernel.specs.EngineParts.{EngineParts, DeskState, IsBoard, FitTogether, IsDesk, IsEngineOf, IsLeft, IsNewDesk, IsOfPiece, IsOpened, IsOwnCall, IsPlanned, parts_with, desks_with, opening, plan_terms, ranges_by, reporter, value_by, work_of}
+use Rattle.qtc_kernel.specs.EngineParts.{EngineParts, AreReported, DeskState, IsBoard, FitTogether, IsDesk, IsEngineOf, IsLeft, IsNewDesk, IsOfPiece, IsOpened, IsOwnCall, IsPlanned, parts_with, desks_with, opening, plan_terms, ranges_by, reporter, value_by, work_of}
 use Rattle.qtc_kernel.specs.Driving.{is_filter, own_entry}
 use Rattle.qtc_kernel.specs.Workload.{Suits}
 use Rattle.qtc_kernel.specs.declared.kinds.Kind.{Kind}
@@ -102,7 +102,7 @@ module _ {F : Type 0} (value : F → List ℕ → ItemValue) (called : F → Lis
   none_own : (k : ℕ) → 1 ≤ k → calls_by k opening ≡ []
   none_own k some = let is : (0 == k) ≡ false = grind (arith, nat_tests) in rw is refl
 
-  pub board_opens : (tally : TallyState) (pass : PassState (List ℕ)) → 1 ≤ parts.counter.workers → tally ≡ record { of = parts.counter; pieces = []; workers = [] } → pass ≡ pass_at parts.future (reporter parts) opening → IsBoard value parts tally pass
+  pub board_opens : (tally : TallyState) (pass : PassState (List ℕ)) → 1 ≤ parts.counter.workers → tally ≡ record { of = parts.counter; pieces = []; workers = [] } → pass ≡ pass_at parts.future (reporter parts) opening → IsBoard value parts tally pass true
   board_opens tally pass some tally_is pass_is = record {
     counter = ap (λ (t : TallyState). t.of) tally_is;
     future = ap (λ (p : PassState (List ℕ)). p.of) pass_is;
@@ -112,6 +112,10 @@ module _ {F : Type 0} (value : F → List ℕ → ItemValue) (called : F → Lis
     reports =
         let none : calls_by pass.number pass.known ≡ [] = ap (λ (p : PassState (List ℕ)). calls_by p.number p.known) pass_is ∙ none_own (reporter parts) some in
         subst (All (IsOfPiece (work_of value parts) parts.counter.n parts.sizes tally.pieces)) (sym none) (All-nil (IsOfPiece (work_of value parts) parts.counter.n parts.sizes tally.pieces));
+    mark = (
+      λ on. subst (λ claims. AreReported parts.counter.n (reporter parts) claims pass.known) (sym (ap (λ (t : TallyState). t.pieces) tally_is)) (All-nil (λ claim. Contains (ranges_by (reporter parts) pass.known) (clipped parts.counter.n claim))),
+      λ all. refl,
+    );
   }
 
   -- ---- desks
@@ -230,7 +234,7 @@ module _ {F : Type 0} (value : F → List ℕ → ItemValue) (called : F → Lis
     suits = subst (λ filter. Suits filter (work_of value made)) (sym (ap (λ (terms : Terms). terms.filter) opened.terms_are)) planned.suits;
   }
 
-  pub made_board : IsBoard value made tally reporting
+  pub made_board : IsBoard value made tally reporting true
   made_board = board_opens value called made tally reporting (let one = planned.limits.one in let is = new.for_workers in omega arith) new.nothing (opened.reporting_is ∙ ap (λ k. pass_at future k opening) (sym new.for_workers))
 
   fresh : AreFresh value called made 0 (desks_with seats passes badges functions) (length functions)

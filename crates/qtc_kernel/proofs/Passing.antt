@@ -1,5 +1,5 @@
 -- What a pass knows, as it looks and meets journals.
-use Rattle.std.proofs.Common.{◌≡◌, ◌⊎◌, ℕ, Bool, true, false, ◌||◌, ◌==◌, List, [], ◌∷◌, ◌++◌, All, IsTrue, map, fold, if◌then◌else◌, inl, inr, refl, ap, sym, ◌∙◌, subst, arith, append_assoc, append-nil}
+use Rattle.std.proofs.Common.{◌≡◌, ◌⊎◌, ℕ, Bool, true, false, ◌||◌, ◌==◌, List, [], ◌∷◌, ◌++◌, All, IsTrue, map, fold, if◌then◌else◌, inl, inr, refl, ap, sym, ◌∙◌, subst, arith, append-nil}
 use Rattle.std.specs.Prelude.{Contains}
 use Rattle.std.specs.List.{list_any}
 use Rattle.std.proofs.lemmas.Bool.{false≢true}
@@ -128,7 +128,7 @@ no_batch Cancel values h = refl
 no_batch (Fail index) values h = refl
 no_batch Finish values h = refl
 
-none_reported : (number : ℕ) (logged : Logged (List ℕ)) (later : Journal) → batches_in logged ≡ [] → ranges_by number later ≡ [] → ranges_by number (logged ∷ later) ≡ []
+pub none_reported : (number : ℕ) (logged : Logged (List ℕ)) (later : Journal) → batches_in logged ≡ [] → ranges_by number later ≡ [] → ranges_by number (logged ∷ later) ≡ []
 none_reported number logged later none rest =
     elim (logged.entry.caller == number) as (λ b. map range_of (reports_of (if b then logged ∷ calls_by number later else calls_by number later)) ≡ []) [
       | true ↦ ap (λ batches. map range_of (batches ++ reports_of (calls_by number later))) none ∙ rest

@@ -1,5 +1,5 @@
 -- What the desks of an engine keep, put together once all of them were brought in.
-use Rattle.std.proofs.Common.{◌≡◌, ◌⊎◌, ℕ, ◌+◌, ◌<◌, ◌≤◌, Bool, true, false, not, ◌||◌, ◌&&◌, ◌==◌, nat_lt, List, [], ◌∷◌, ◌++◌, All, Option, Some, option_to_list, cond, map, length, fold, if◌then◌else◌, inl, inr, refl, ap, sym, ◌∙◌, subst, arith, append_assoc, length-append}
+use Rattle.std.proofs.Common.{◌≡◌, ◌⊎◌, ℕ, ◌+◌, ◌<◌, ◌≤◌, Bool, true, false, not, ◌||◌, ◌&&◌, ◌==◌, nat_lt, List, [], ◌∷◌, ◌++◌, All, cond, map, length, fold, if◌then◌else◌, inl, inr, refl, ap, sym, ◌∙◌, subst, arith, append-nil, length-append}
 use Rattle.std.specs.Prelude.{Contains}
 use Rattle.std.specs.List.{list_any}
 use native.Mathlib.Decide.{dec_lt}
@@ -8,9 +8,9 @@ use Rattle.std.proofs.lemmas.Bool.Decides.{nat_tests}
 use Rattle.std.proofs.lemmas.List.{map-append}
 use Rattle.std.proofs.lemmas.List.Elements.{All-append, All-cons, All-head, All-nil, All-tail, All-weaker, filter-append}
 use Rattle.std.proofs.lemmas.List.Sums.{sum_by-cons}
-use Rattle.qtc_base.specs.Ranges.{times_covered}
+use Rattle.qtc_base.specs.Ranges.{Tiles, times_covered}
 use Rattle.qtc_claim.specs.Claims.{Addition, Worker, claims_of, clipped, gave, times_numbered}
-use Rattle.qtc_claim.specs.Counter.{CounterId, HasAll, IsGathered, KnowsClaims, TallyState}
+use Rattle.qtc_claim.specs.Counter.{CounterId, HasAll, IsGathered, KnowsClaims}
 use Rattle.qtc_events.specs.Flags.{Standing, new_flags}
 use Rattle.qtc_events.specs.Calls.{after, has_effect}
 use Rattle.qtc_events.specs.Journal.{after_entry}
@@ -29,17 +29,19 @@ use Rattle.qtc_shared.specs.Passes.{FutureId, IsHold, Makes, Meets, PassState, S
 use Rattle.qtc_shared.proofs.Prefixes.{begins_further, begins_same, saw_begins}
 use Rattle.qtc_kernel.specs.EngineParts.{AreReported, EngineParts, DeskState, HasMetEnd, FitTogether, IsDesk, IsLeft, IsOfPiece, IsOwnCall, given_at, is_own, is_report, is_strange, opening, ranges_by, reporter, shows_end, work_of}
 use Rattle.qtc_kernel.specs.BroughtIn.{AreBroughtIn, IsUncovered}
-use Rattle.qtc_kernel.specs.Endings.{AreGathered, AreSettled, IsMet, functions_at, with_seat, workers_at}
-use Rattle.qtc_kernel.specs.Gathering.{IsClaimed}
+use Rattle.qtc_kernel.specs.Endings.{AreSettled, IsMet, functions_at, workers_at}
+use Rattle.qtc_kernel.specs.Gathering.{IsClaimed, gathered_ranges}
 use Rattle.qtc_kernel.specs.Runs.{range_of, times_called}
-use Rattle.qtc_kernel.specs.WorkedOut.{AreContinued, Continues, IsWorkedOut, calls_of}
+use Rattle.qtc_kernel.specs.WorkedOut.{IsWorkedOut, calls_of}
 use Rattle.qtc_kernel.specs.Workload.{Workload}
 use Rattle.qtc_kernel.proofs.AtDesks.{own_more}
-use Rattle.qtc_kernel.proofs.Boards.{none_strange as none_strange_reports}
+use Rattle.qtc_kernel.proofs.Asking.{canceled_stays}
+use Rattle.qtc_kernel.proofs.Boards.{none_strange as none_strange_reports, reports_gathered}
 use Rattle.qtc_kernel.proofs.Counting.{calls-append, times-append, times-cons}
-use Rattle.qtc_kernel.proofs.Ending.{IsOurs, all_left, all_ours, desks_are_worked_out, not_finish, tail_by, unfinished_after}
-use Rattle.qtc_kernel.proofs.Turning.{continues_same}
-use Rattle.qtc_kernel.proofs.Passing.{Journal, begins_more, calls_by-append, contained_on, met_end, reports_rest, stays_known, strange_on}
+use Rattle.qtc_kernel.proofs.Ended.{ends}
+use Rattle.qtc_kernel.proofs.Ending.{IsOurs, all_ours, desks_are_worked_out, not_finish, tail_by, unfinished_after}
+use Rattle.qtc_kernel.proofs.Gathering.{all_left}
+use Rattle.qtc_kernel.proofs.Passing.{Journal, begins_more, calls_by-append, contained_on, met_end, none_reported, ranges_by-append, reports_rest, stays_known, strange_on}
 
 -- ---- the finish
 
@@ -346,43 +348,9 @@ module _ {F : Type 0} (value : F → List ℕ → ItemValue) (called : F → Lis
         | inr (inr strange) ↦ absurd (false≢true (sym none ∙ strange_on (reporter parts) desk.pass.known journal is.begins strange))
       ]
 
--- ---- functions that come back
-
-continued_last : {F : Type 0} (value : F → List ℕ → ItemValue) (called : F → List ℕ) (functions : List F) (before after : F) → Continues value called before after → AreContinued value called (functions ++ before ∷ []) (functions ++ after ∷ [])
-continued_last value called [] before after continues = (continues, tt)
-continued_last value called (function ∷ functions) before after continues = (continues_same value called function, continued_last value called functions before after continues)
-
--- the last desk was worked on with, and its function comes last
-pub handed_back : {F : Type 0} (value : F → List ℕ → ItemValue) (called : F → List ℕ) (desks left others : List (DeskState F)) (taken : Option (DeskState F)) (before after : DeskState F) → desks ≡ left ++ option_to_list taken → taken ≡ Some before
-    → functions_at others ≡ functions_at left → Continues value called before.function after.function → AreContinued value called (functions_at desks) (functions_at (others ++ after ∷ []))
-handed_back value called desks left others taken before after desks_are taken_is same continues =
-    let all : functions_at desks ≡ functions_at left ++ before.function ∷ [] =
-    ap functions_at (desks_are ∙ ap (λ o. left ++ option_to_list o) taken_is) ∙ map-append (λ desk. desk.function) left (before ∷ [])
-    in
-    let back : functions_at (others ++ after ∷ []) ≡ functions_at left ++ after.function ∷ [] =
-    map-append (λ desk. desk.function) others (after ∷ []) ∙ ap (λ functions. functions ++ after.function ∷ []) same
-    in
-    subst (λ functions. AreContinued value called functions (functions_at (others ++ after ∷ []))) (sym all)
-    (subst (AreContinued value called (functions_at left ++ before.function ∷ [])) (sym back) (continued_last value called (functions_at left) before.function after.function continues))
-
--- ---- the tally
-
--- a desk is gathered, and then the others
-module _ {F : Type 0} (first : DeskState F) (others : List (DeskState F)) (journal : Journal) (before one all last : TallyState) (gathers : one ≡ with_seat first.seat before) (gathered : AreGathered journal one all others) (same : last ≡ all) where
-  pub of_all : last.of ≡ before.of
-  of_all = ap (λ (t : TallyState). t.of) same ∙ gathered.of ∙ ap (λ (t : TallyState). t.of) gathers
-
-  pub workers_all : last.workers ≡ before.workers ++ workers_at (first ∷ others)
-  workers_all =
-      ap (λ (t : TallyState). t.workers) same ∙ gathered.workers ∙ ap (λ (t : TallyState). t.workers ++ workers_at others) gathers
-      ∙ append_assoc before.workers (first.seat.worker ∷ []) (workers_at others)
-
-  pub pieces_all : last.pieces ≡ before.pieces
-  pieces_all = ap (λ (t : TallyState). t.pieces) same ∙ gathered.pieces ∙ ap (λ (t : TallyState). t.pieces) gathers
-
 -- ---- all together
 
-module _ {F : Type 0} (value : F → List ℕ → ItemValue) (called : F → List ℕ) (parts : EngineParts F) (fits : FitTogether value parts) (first : DeskState F) (others : List (DeskState F)) (known : Journal) (s : AreSettled value parts first others known)
+module _ {F : Type 0} (value : F → List ℕ → ItemValue) (called : F → List ℕ) (parts : EngineParts F) (fits : FitTogether value parts) (first : DeskState F) (others : List (DeskState F)) (known : Journal) (ended : Bool) (s : AreSettled value parts first others known ended)
     (count : length (first ∷ others) ≡ parts.counter.workers) (first_is : IsDesk value called parts first) (others_are : All (IsDesk value called parts) others) (met : All (IsMet first.pass.known) others)
     (over : (parts.counter.n ≤ first.seat.worker.seen) ⊎ HasMetEnd first.pass) (no_lack : first.lacks ≡ false) (none_lack : All (λ desk. desk.lacks ≡ false) others)
     (calls : List ℕ) (calls_are : (index : ℕ) → times_called calls index ≡ times_called (calls_at value called parts (first ∷ others)) index) where
@@ -403,6 +371,9 @@ module _ {F : Type 0} (value : F → List ℕ → ItemValue) (called : F → Lis
 
   abbrev logged : Logged (List ℕ)
   logged = logged_by (future_at terms s.journal) first.pass.number Finish [] []
+
+  abbrev before_finish : Future (List ℕ)
+  before_finish = future_at terms s.journal
 
   either : ((known ≡ s.journal) × ((flags_at s.journal).finished ≡ true)) ⊎ (known ≡ s.journal ++ logged ∷ [])
   either = elim (finished_either (future_at terms s.journal) (future_at terms known) first.pass.number s.finished) [
@@ -514,6 +485,39 @@ module _ {F : Type 0} (value : F → List ℕ → ItemValue) (called : F → Lis
   left : AreLeft value called parts s.journal desks
   left = are_left value called parts terms calls s.journal desks s.met.lawful (none_strange_reports (reporter parts) s.journal none_strange) are_in
 
+  -- ---- the answer whether the work is at its end
+
+  reported : (flags_at s.journal).canceled ≡ false → AreReported s.tally.of.n (reporter parts) (gave s.tally.of.n (claims_of s.tally.workers)) s.journal
+  reported not_canceled =
+      subst (λ (c : CounterId). AreReported c.n (reporter parts) (gave c.n (claims_of s.tally.workers)) s.journal) (sym tally_of)
+      (subst (λ ws. AreReported n (reporter parts) (gave n (claims_of ws)) s.journal) (sym workers_are)
+      (all_reported value called parts calls s.journal desks are_in (going not_canceled) none_strange))
+
+  among : All (Contains (gathered_ranges s.tally)) (ranges_by (reporter parts) s.journal)
+  among =
+      subst (λ (c : CounterId). All (Contains (map (clipped c.n) s.tally.pieces)) (ranges_by (reporter parts) s.journal)) (sym tally_of)
+      (subst (λ pieces. All (Contains (map (clipped n) pieces)) (ranges_by (reporter parts) s.journal)) (sym s.pieces)
+      (reports_gathered value parts s.before.pieces (calls_by (reporter parts) s.journal) reports))
+
+  -- the finish is no report
+  same_ranges : (number : ℕ) → ranges_by number known ≡ ranges_by number s.journal
+  same_ranges number = elim either [
+    | inl same ↦ ap (ranges_by number) same.0
+    | inr more ↦
+        ap (ranges_by number) more ∙ ranges_by-append number s.journal (logged ∷ [])
+        ∙ ap (λ ranges. ranges_by number s.journal ++ ranges) (none_reported number logged [] refl refl)
+        ∙ append-nil (ranges_by number s.journal)
+  ]
+
+  -- it is, where nothing was canceled
+  never_false : (flags_at s.journal).canceled ≡ false → ended ≡ true
+  never_false not_canceled =
+      let there = ends s.tally (reporter parts) s.journal (subst (λ c. IsGathered c s.tally) (sym tally_of) s.gathered) knows (claimed not_canceled) (reported not_canceled) among in
+      s.ended_is.1 (record {
+        end = there.end;
+        reported = subst (λ ranges. All (λ claim. Contains ranges (clipped s.tally.of.n claim)) s.tally.pieces) (sym (same_ranges (reporter parts))) there.reported;
+      })
+
   brought_in : AreBroughtIn work parts.sizes parts.future.terms s.journal s.tally calls
   brought_in = record {
     indexes = ap (λ (c : CounterId). c.n) tally_of ∙ fits.indexes;
@@ -535,11 +539,9 @@ module _ {F : Type 0} (value : F → List ℕ → ItemValue) (called : F → Lis
         subst (λ (c : CounterId). times_covered (map (clipped c.n) (gave c.n (claims_of s.tally.workers))) index ≤ times_called calls index + times_covered (map (clipped c.n) left.left) index) (sym tally_of)
         (subst (λ ws. times_covered (map (clipped n) (gave n (claims_of ws))) index ≤ times_called calls index + times_covered (map (clipped n) left.left) index) (sym workers_are)
         (subst (λ k. times_covered (map (clipped n) (gave n (claims_of (workers_at desks)))) index ≤ k + times_covered (map (clipped n) left.left) index) (sym (calls_are index)) (left.least index)));
-    reported = λ not_canceled.
-        subst (λ (c : CounterId). AreReported c.n c.workers (gave c.n (claims_of s.tally.workers)) s.journal) (sym tally_of)
-        (subst (λ ws. AreReported n (reporter parts) (gave n (claims_of ws)) s.journal) (sym workers_are)
-        (all_reported value called parts calls s.journal desks are_in (going not_canceled) none_strange));
-    claimed = claimed;
+    tiled = λ not_canceled.
+        subst (λ (c : CounterId). Tiles (ranges_by c.workers s.journal) c.n) (sym tally_of)
+        (subst (λ ranges. Tiles ranges n) (same_ranges (reporter parts)) (s.tiles (never_false not_canceled)));
   }
 
   pub worked_out : IsWorkedOut work parts.sizes parts.future.terms known calls
@@ -550,3 +552,20 @@ module _ {F : Type 0} (value : F → List ℕ → ItemValue) (called : F → Lis
         (desks_are_worked_out work parts.sizes parts.future.terms s.journal s.tally calls logged brought_in refl
         (subst (λ t. IsJournal t (s.journal ++ logged ∷ [])) terms_are (subst (IsJournal terms) more s.lawful)))
   ]
+
+  -- the work is at its end, or Canceled stands
+  pub ended_or : (canceled : Bool) → canceled ≡ (flags_at known).canceled → (ended ≡ false) → canceled ≡ false → ⊥
+  ended_or canceled is not_ended not_canceled = false≢true (sym not_ended ∙ never_false before)
+    where
+      later : (flags_at s.journal).canceled ≡ true → (flags_at known).canceled ≡ true
+      later e = elim either [
+        | inl same ↦ ap (λ (j : Journal). (flags_at j).canceled) same.0 ∙ e
+        | inr more ↦ ap (λ (j : Journal). (flags_at j).canceled) more ∙ canceled_stays before_finish logged e
+      ]
+
+      before : (flags_at s.journal).canceled ≡ false
+      before =
+          elim (flags_at s.journal).canceled as (λ b. (flags_at s.journal).canceled ≡ b → b ≡ false) [
+            | true ↦ λ e. absurd (false≢true (sym (sym is ∙ not_canceled) ∙ later e))
+            | false ↦ λ e. refl
+          ] refl

@@ -1,5 +1,5 @@
 -- What a worker's turn makes of its desk.
-use Rattle.std.proofs.Common.{◌≡◌, ℕ, ◌+◌, ◌<◌, ◌≤◌, ◌%◌, Bool, true, false, nat_lt, cond, List, [], ◌∷◌, ◌++◌, None, Some, All, map, length, inl, inr, refl, ap, sym, ◌∙◌, subst, arith, append-nil, append_assoc, length-append}
+use Rattle.std.proofs.Common.{◌≡◌, ℕ, ◌+◌, ◌<◌, ◌≤◌, ◌%◌, Bool, true, false, nat_lt, cond, List, [], ◌∷◌, ◌++◌, All, map, length, inl, inr, refl, ap, sym, ◌∙◌, subst, arith, append-nil, append_assoc, length-append}
 use Rattle.std.specs.Prelude.{◌⊎◌, Contains, slice_index}
 use Rattle.std.proofs.lemmas.Bool.{false≢true}
 use Rattle.std.proofs.lemmas.Bool.Decides.{nat_tests}
@@ -262,3 +262,11 @@ lacks_did lacks Exhausted did = absurd (false≢true did)
 lacks_did lacks SawCanceled did = absurd (false≢true did)
 lacks_did lacks (Failed index) did = absurd (false≢true did)
 lacks_did lacks Memory did = absurd (false≢true did)
+
+-- whoever wanted memory before a turn wants it after
+pub lacked_none : (lacks : Bool) (turn : Turn) → lacks_after lacks turn ≡ false → lacks ≡ false
+lacked_none lacks (Did range) none = none
+lacked_none lacks Exhausted none = none
+lacked_none lacks SawCanceled none = none
+lacked_none lacks (Failed index) none = none
+lacked_none lacks Memory none = absurd (false≢true (sym none))

@@ -1,14 +1,13 @@
 -- What is known of an engine once all of its desks are brought in. (Own.)
 use Rattle.std.specs.Prelude.{◌≡◌, ◌+◌, ◌<◌, ◌≤◌, ℕ, false, List, [], ◌∷◌, ◌++◌, All, map}
-use Rattle.qtc_base.specs.Ranges.{times_covered}
+use Rattle.qtc_base.specs.Ranges.{Tiles, times_covered}
 use Rattle.qtc_claim.specs.Claims.{Addition, claims_of, clipped, gave}
 use Rattle.qtc_claim.specs.Counter.{HasAll, IsGathered, KnowsClaims, TallyState}
 use Rattle.qtc_events.specs.declared.calls.Call.TheVariants.{Finish}
 use Rattle.qtc_future.specs.Future.{Logged, reports_of}
 use Rattle.qtc_shared.specs.Journals.{BeginsWith, IsJournal, calls_by, flags_at}
 use Rattle.qtc_shared.specs.Parts.{Terms}
-use Rattle.qtc_kernel.specs.EngineParts.{AreReported, IsOfPiece, IsOwnCall, opening}
-use Rattle.qtc_kernel.specs.Gathering.{IsClaimed}
+use Rattle.qtc_kernel.specs.EngineParts.{IsOfPiece, IsOwnCall, opening, ranges_by}
 use Rattle.qtc_kernel.specs.Runs.{range_of, times_called}
 use Rattle.qtc_kernel.specs.WorkedOut.{IsWorkedOut}
 use Rattle.qtc_kernel.specs.Workload.{Workload, size_of}
@@ -39,10 +38,8 @@ pub record AreBroughtIn (work : Workload) (sizes : List ℕ) (terms : Terms) (jo
       ≤ times_covered (map (clipped tally.of.n) (claims_of tally.workers)) index
   pub least : (index : ℕ) → times_covered (map (clipped tally.of.n) (gave tally.of.n (claims_of tally.workers))) index
       ≤ times_called calls index + times_covered (map (clipped tally.of.n) left) index
-  -- where nothing was canceled, each claim was reported, and one of the workers saw the end
-  pub reported : (flags_at journal).canceled ≡ false
-      → AreReported tally.of.n tally.of.workers (gave tally.of.n (claims_of tally.workers)) journal
-  pub claimed : (flags_at journal).canceled ≡ false → IsClaimed tally
+  -- where nothing was canceled, the engine's end came to this
+  pub tiled : (flags_at journal).canceled ≡ false → Tiles (ranges_by tally.of.workers journal) tally.of.n
 
 abbrev pub DesksAreWorkedOut : Type 0
 DesksAreWorkedOut = (work : Workload) (sizes : List ℕ) (terms : Terms) (journal : List (Logged (List ℕ)))

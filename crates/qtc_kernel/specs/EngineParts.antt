@@ -1,5 +1,5 @@
 -- An engine with workers, and a worker's desk, as contracts see them. (After Qt's ThreadEngine and IterateKernel; own.)
-use Rattle.std.specs.Prelude.{◌≡◌, ◌+◌, ◌<◌, ◌≤◌, ◌||◌, ◌⊎◌, ◌==◌, ◌&&◌, not, ℕ, Bool, true, false, List, [], ◌∷◌, ◌++◌, Option, None, Some, All, Contains, IfSome, IsTrue, map, length, slice_get, ◌%◌}
+use Rattle.std.specs.Prelude.{◌≡◌, ◌+◌, ◌<◌, ◌≤◌, ◌||◌, ◌⊎◌, ◌==◌, ◌&&◌, ◌↔◌, not, ℕ, Bool, true, false, List, [], ◌∷◌, ◌++◌, None, Some, All, Contains, IfSome, IsTrue, map, length, slice_get, ◌%◌}
 use Rattle.std.specs.List.{list_any}
 use Rattle.qtc_base.specs.Ranges.{times_covered}
 use Rattle.qtc_active.specs.Count.{BadgeState, CountId, new_badge}
@@ -242,10 +242,10 @@ pub record IsOfPiece (work : Workload) (n : ℕ) (sizes : List ℕ) (pieces : Li
   pub block : IsBlock n sizes (range_of batch)
   pub gathered : Contains (map (clipped n) pieces) (range_of batch)
 
--- what is true of the tally and of the pass beside it whenever no worker has them in hand: the calls of that pass are
--- reports of gathered pieces
+-- what is true of the tally, of the pass beside it, and of the mark, whenever no worker has them in hand: the calls of
+-- that pass are reports of gathered pieces, and the mark tells whether each gathered piece was reported
 pub record IsBoard {F : Type 0} (value : F → List ℕ → ItemValue) (parts : EngineParts F) (tally : TallyState)
-    (pass : PassState (List ℕ)) : Type 0 where
+    (pass : PassState (List ℕ)) (all_reported : Bool) : Type 0 where
   pub counter : tally.of ≡ parts.counter
   pub future : pass.of ≡ parts.future
   pub number : pass.number ≡ reporter parts
@@ -253,6 +253,7 @@ pub record IsBoard {F : Type 0} (value : F → List ℕ → ItemValue) (parts : 
   pub opened : BeginsWith pass.known opening
   pub reports : All (IsOfPiece (work_of value parts) parts.counter.n parts.sizes tally.pieces)
       (calls_by pass.number pass.known)
+  pub mark : IsTrue all_reported ↔ AreReported parts.counter.n (reporter parts) tally.pieces pass.known
 
 -- ---- how it is made
 

@@ -3,6 +3,8 @@ use Rattle.std.specs.Prelude.{◌≡◌, ℕ, ◌<◌, ◌≤◌, List, All, Con
 use Rattle.qtc_base.specs.Ranges.{Tiles, times_covered}
 use Rattle.qtc_claim.specs.Claims.{Worker, claims_of, clipped, gave}
 use Rattle.qtc_claim.specs.Counter.{TallyState, HasAll, IsEnd, IsGathered, KnowsClaims}
+use Rattle.qtc_future.specs.Future.{Logged}
+use Rattle.qtc_kernel.specs.EngineParts.{AreReported}
 
 -- all workers are gathered, and one of them saw n or more
 pub record IsClaimed (tally : TallyState) : Type 0 where
@@ -25,6 +27,12 @@ pub record NoneIsMissing (tally : TallyState) (reported : List (ℕ × ℕ)) : T
   pub end : IsEnd tally
   pub covered : (index : ℕ) → index < tally.of.n → 1 ≤ times_covered reported index
   pub within : (index : ℕ) → tally.of.n ≤ index → times_covered reported index ≡ 0
+
+-- the work of an engine is at its end: all seats are gathered, what the gathered pieces and the additions without a
+-- piece added meets the counter, which is at n or past it, and each gathered piece was reported by this number
+pub record HasEnded (tally : TallyState) (number : ℕ) (journal : List (Logged (List ℕ))) : Type 0 where
+  pub end : IsEnd tally
+  pub reported : AreReported tally.of.n number tally.pieces journal
 
 abbrev pub ReportsMeetClaims : Type 0
 ReportsMeetClaims = (tally : TallyState) (reported : List (ℕ × ℕ)) →

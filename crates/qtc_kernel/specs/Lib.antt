@@ -5,8 +5,8 @@ pub mod Runs
 pub mod Laws
 pub mod Driving
 pub mod Inside
-pub mod Gathering
 pub mod EngineParts
+pub mod Gathering
 pub mod Desks
 pub mod WorkedOut
 pub mod Turns

@@ -12,12 +12,14 @@ use qtc_shared::{Pass, SharedFuture};
 use std::alloc::Global;
 use std::marker::{Brand, Model, PhantomData};
 
-/// The tally of the pieces, and the pass that reports them, each in the hold of the lock in which its piece is
-/// gathered.
+/// The tally of the pieces, the pass that reports them, each in the hold of the lock in which its piece is gathered, and
+/// whether all were reported.
 #[derive(Drop)]
 pub(crate) struct Board<F> {
     pub(crate) tally: Tally,
     pub(crate) pass: Pass<Bytes>,
+    /// Whether each piece of the tally was reported.
+    pub(crate) all_reported: bool,
     pub(crate) marker: PhantomData<F>,
 }
 
@@ -45,7 +47,7 @@ impl<F: ItemFn> Keyed for Board<F> {
 
     type Key = Place<F>;
 
-    ghost fits = { λ place board. IsBoard F.value place.parts board.tally board.pass };
+    ghost fits = { λ place board. IsBoard F.value place.parts board.tally board.pass board.all_reported };
 }
 
 /// A lock over the board of an engine of these parts. Err is want of memory.
@@ -62,7 +64,7 @@ pub(crate) fn placed<F: ItemFn, J: Names<Place<F>>>(
     requires named { J.named ≡ true }
     requires place { J.key.parts
         ≡ parts_with counter.now future.now active.now items.now functions.now.items sizes.now }
-    requires fits { IsBoard F.value J.key.parts board.tally board.pass }
+    requires fits { IsBoard F.value J.key.parts board.tally board.pass board.all_reported }
     ensures { IfOk result (λ lock. lock.key.parts
         ≡ parts_with counter.now future.now active.now items.now functions.now.items sizes.now) }
 {

@@ -86,6 +86,7 @@ impl<'a, F: ItemFn + Drop, G: Gate> Engine<'a, F, G> {
         let board = Board {
             tally,
             pass: reporter,
+            all_reported: true,
             marker: PhantomData,
         };
         let board = placed::<F, Brand>(

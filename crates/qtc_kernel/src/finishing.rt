@@ -1,10 +1,12 @@
 //! How an engine ends.
-ghost use Rattle.std.specs.Prelude.{◌≡◌, ◌≤◌, ◌⊎◌, ◌++◌, ◌∷◌, [], true, false, All, IfOk, IsTrue, length};
-ghost use Rattle.qtc_claim.specs.Counter.{IsGathered};
-ghost use Rattle.qtc_shared.specs.Journals.{calls_by, flags_at};
+ghost use Rattle.std.specs.Prelude.{◌≡◌, ◌≤◌, ◌⊎◌, ◌↔◌, ◌++◌, ◌∷◌, [], true, false, All, IfOk, IsTrue, length};
+ghost use Rattle.qtc_base.specs.Ranges.{Tiles};
+ghost use Rattle.qtc_claim.specs.Counter.{HasAll, IsGathered, KnowsClaims};
+ghost use Rattle.qtc_shared.specs.Journals.{IsJournal, calls_by, flags_at};
 ghost use Rattle.qtc_shared.specs.Passes.{IsHold, Meets, Stays};
-ghost use Rattle.qtc_kernel.specs.EngineParts.{AreDesks, HasMetEnd, IsBoard, IsDesk, work_of};
-ghost use Rattle.qtc_kernel.specs.Endings.{AreGathered, AreSettled, IsMet, functions_at, with_seat};
+ghost use Rattle.qtc_kernel.specs.EngineParts.{AreDesks, HasMetEnd, IsBoard, IsDesk, ranges_by, reporter, work_of};
+ghost use Rattle.qtc_kernel.specs.Endings.{AreGathered, AreSettled, IsMet, KnowsTheSame, functions_at, wants_at, with_seat};
+ghost use Rattle.qtc_kernel.specs.Gathering.{HasEnded};
 ghost use Rattle.qtc_kernel.specs.Turns.{GoesOn};
 ghost use Rattle.qtc_kernel.specs.WorkedOut.{AreContinued, Continues, IsWorkedOut, calls_of};
 
@@ -26,6 +28,7 @@ impl<'a, F: ItemFn, G: Gate> Engine<'a, F, G> {
         ensures pass { GoesOn pass.old pass.new }
         ensures own { calls_by pass.new.number pass.new.known ≡ calls_by pass.old.number pass.old.known }
         ensures functions { functions_at desks.new.items ≡ functions_at desks.old.items }
+        ensures lacks { wants_at desks.new.items ≡ wants_at desks.old.items }
         ensures desks { All (IsDesk F.value F.called self.now) desks.new.items }
         ensures met { All (IsMet pass.new.known) desks.new.items }
     {
@@ -42,9 +45,23 @@ impl<'a, F: ItemFn, G: Gate> Engine<'a, F, G> {
         ensures own { calls_by pass.new.number pass.new.known ≡ calls_by pass.old.number pass.old.known }
         ensures desk { IsDesk F.value F.called self.now desk.new }
         ensures function { desk.new.function ≡ desk.old.function }
+        ensures lacks { desk.new.lacks ≡ desk.old.lacks }
         ensures met { IsMet pass.new.known desk.new }
     {
         self.future.meet(rt, pass, &mut desk.pass);
+    }
+
+    // Whether the work is at its end: no piece is missing, and each was reported. What was reported then tiles the
+    // indexes.
+    fn has_ended(&self, board: &mut Board<F>) -> bool
+        requires board { IsBoard F.value self.now board.old.tally board.old.pass board.old.all_reported }
+        requires lawful { IsJournal self.now.future.terms board.old.pass.known }
+        ensures same { board.new ≡ board.old }
+        ensures ended { IsTrue result ↔ HasEnded board.old.tally (reporter self.now) board.old.pass.known }
+        ensures tiles { IsTrue result → Tiles (ranges_by (reporter self.now) board.old.pass.known) self.now.counter.n }
+        ensures claims { HasAll board.old.tally → KnowsClaims board.old.tally }
+    {
+        self.counter.end(&mut board.tally) && board.all_reported
     }
 }
 
@@ -62,7 +79,7 @@ impl<'a, F: ItemFn + Drop, G: Gate> Engine<'a, F, G> {
         requires tally { tally.old.of ≡ self.now.counter }
         requires desk { IsDesk F.value F.called self.now desk }
         ensures function { result ≡ desk.function }
-        ensures pass { (pass.new.known ≡ pass.old.known) × (pass.new.of ≡ pass.old.of) }
+        ensures pass { KnowsTheSame pass.old pass.new }
         ensures met { Meets desk.pass pass.old.known }
         ensures tally { tally.new ≡ with_seat desk.seat tally.old }
         ensures apart { IsGathered self.now.counter tally.new }
@@ -93,7 +110,7 @@ impl<'a, F: ItemFn + Drop, G: Gate> Engine<'a, F, G> {
         requires pass { (pass.old.of ≡ self.now.future) × IsTrue (flags_at pass.old.known).finished }
         requires tally { (tally.old.of ≡ self.now.counter) × IsGathered self.now.counter tally.old }
         requires desks { All (IsDesk F.value F.called self.now) desks.items }
-        ensures pass { (pass.new.known ≡ pass.old.known) × (pass.new.of ≡ pass.old.of) }
+        ensures pass { KnowsTheSame pass.old pass.new }
         ensures gathered { AreGathered pass.old.known tally.old tally.new desks.items }
         ensures apart { IsGathered self.now.counter tally.new }
         ensures functions { IsTrue result → functions.new.items ≡ functions.old.items ++ functions_at desks.items }
@@ -116,6 +133,8 @@ impl<'a, F: ItemFn + Drop, G: Gate> Engine<'a, F, G> {
         ensures met { All (IsMet first.new.pass.known) others.new.items }
         ensures function { Continues F.value F.called first.old.function first.new.function }
         ensures functions { functions_at others.new.items ≡ functions_at others.old.items }
+        ensures lacks { first.new.lacks ≡ false → first.old.lacks ≡ false }
+        ensures lack { wants_at others.new.items ≡ wants_at others.old.items }
         ensures over { (self.now.counter.n ≤ first.new.seat.worker.seen) ⊎ HasMetEnd first.new.pass }
     {
         self.enter(first);
@@ -123,8 +142,8 @@ impl<'a, F: ItemFn + Drop, G: Gate> Engine<'a, F, G> {
         self.meet_each(rt, &mut first.pass, others);
     }
 
-    // Finishes the future with the first desk's pass, which it gives, and gathers what all desks have. False says that
-    // there was no room for all functions, of which the first desk's comes last.
+    // Finishes the future with the first desk's pass, gathers what all desks have, and asks whether the work is at its
+    // end. The first desk's function comes last.
     fn settle<R: Wait>(
         &self,
         rt: &R,
@@ -132,13 +151,14 @@ impl<'a, F: ItemFn + Drop, G: Gate> Engine<'a, F, G> {
         first: Desk<F>,
         others: Vec<Desk<F>>,
         functions: &mut Vec<F>,
-    ) -> (Pass<Bytes>, bool)
-        requires board { IsBoard F.value self.now board.old.tally board.old.pass }
+    ) -> Settled
+        requires board { IsBoard F.value self.now board.old.tally board.old.pass board.old.all_reported }
         requires desks { IsDesk F.value F.called self.now first × All (IsDesk F.value F.called self.now) others.items }
-        ensures board { IsBoard F.value self.now board.new.tally board.new.pass }
-        ensures pass { (result.0.of ≡ self.now.future) × IsTrue (flags_at result.0.known).finished }
-        ensures settled { AreSettled F.value self.now first others.items result.0.known }
-        ensures functions { IsTrue result.1 → functions.new.items
+        ensures board { IsBoard F.value self.now board.new.tally board.new.pass board.new.all_reported }
+        ensures pass { (result.pass.of ≡ self.now.future) × IsTrue (flags_at result.pass.known).finished }
+        ensures childless { result.pass.children ≡ 0 }
+        ensures settled { AreSettled F.value self.now first others.items result.pass.known result.has_ended }
+        ensures functions { IsTrue result.has_room → functions.new.items
             ≡ functions.old.items ++ functions_at (others.items ++ first ∷ []) }
     {
         known_is_kept::<Bytes>();
@@ -155,14 +175,19 @@ impl<'a, F: ItemFn + Drop, G: Gate> Engine<'a, F, G> {
         board.tally.gather_seat(&self.counter, seat);
         let mut has_room = self.bring_all(rt, &mut pass, &mut board.tally, others, functions);
         keep(functions, &mut has_room, function);
-        self.counter.end(&mut board.tally);
-        (pass, has_room)
+        let has_ended = self.has_ended(board);
+        Settled {
+            pass,
+            has_ended,
+            has_room,
+        }
     }
 
     /// Ends the work of all desks of the engine, whose workers are out: it works on with one of them until nothing is
     /// left, gathers all seats, and finishes the future. The functions come back in the order of their desks.
     ///
-    /// Err is want of memory, in this call or in an earlier turn of a desk; the future is finished then too.
+    /// Err is want of memory, in this call or in an earlier turn of a desk, and nothing else; the future is finished
+    /// then too.
     pub fn finish<R: Wait>(
         &self,
         rt: &R,
@@ -173,19 +198,26 @@ impl<'a, F: ItemFn + Drop, G: Gate> Engine<'a, F, G> {
         requires out { All (λ desk. desk.badge.is_in ≡ false) desks.items }
         ensures pass { IfOk result (λ done. (done.pass.of ≡ self.now.future)
             × IsTrue (flags_at done.pass.known).finished) }
+        ensures childless { IfOk result (λ done. done.pass.children ≡ 0) }
+        ensures memory { IfOk result (λ done. All (λ desk. desk.lacks ≡ false) desks.items) }
         ensures worked { IfOk result (λ done. IsWorkedOut (work_of F.value self.now) self.now.sizes
             self.now.future.terms done.pass.known done.calls) }
         ensures functions { IfOk result (λ done.
             AreContinued F.value F.called (functions_at desks.items) done.functions.items) }
         ensures calls { IfOk result (λ done. done.calls ≡ calls_of F.called done.functions.items) }
     {
+        known_is_kept::<Bytes>();
         let _ = &self.workers;
         let mut first = desks.pop().unwrap();
         self.work_off(rt, &mut first, &mut desks);
         let had_memory = none_lacks(&first, &desks);
         let (mut board, hold) = self.board.take(rt);
         let mut functions = Vec::new(alloc);
-        let (pass, has_room) = self.settle(rt, &mut board, first, desks, &mut functions);
+        let Settled {
+            mut pass,
+            has_ended,
+            has_room,
+        } = self.settle(rt, &mut board, first, desks, &mut functions);
         self.board.put(board, hold);
         if !had_memory {
             return Err(NoMemory);
@@ -194,12 +226,23 @@ impl<'a, F: ItemFn + Drop, G: Gate> Engine<'a, F, G> {
             return Err(NoMemory);
         }
         let calls = calls_of(alloc, &functions)?;
+        // No answer is needed for work that isn't at its end, though nobody canceled it.
+        let is_canceled = self.future.is_canceled(&mut pass);
+        prove!(has_ended || is_canceled);
         Ok(Finished {
             pass,
             calls,
             functions,
         })
     }
+}
+
+// A pass that knows the finish; whether the work is at its end; and whether there was room for all functions.
+#[derive(Drop)]
+struct Settled {
+    pass: Pass<Bytes>,
+    has_ended: bool,
+    has_room: bool,
 }
 
 // Keeps a function with the others, or says that there was no room for it.

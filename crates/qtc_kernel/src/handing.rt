@@ -1,7 +1,7 @@
 //! How the values of a piece come to the future.
-ghost use Rattle.std.specs.Prelude.{◌≡◌, None, IfErr, IfOk};
+ghost use Rattle.std.specs.Prelude.{◌≡◌, ◌&&◌, None, IfErr, IfOk};
 ghost use Rattle.qtc_future.specs.Steps.{told_by};
-ghost use Rattle.qtc_shared.specs.Passes.{IsHold, Stays};
+ghost use Rattle.qtc_shared.specs.Passes.{IsHold, Stays, is_accepted};
 ghost use Rattle.qtc_kernel.specs.EngineParts.{IsBoard, IsLeft, KnowsEnd, reporter, work_of};
 ghost use Rattle.qtc_kernel.specs.Working.{IsHandedIn, IsPieceOf, is_drop, range_in};
 ghost use Rattle.qtc_kernel.specs.Workload.{first_bad, texts_in};
@@ -24,6 +24,23 @@ fn is_dropped(reply: Reply) -> bool
         Reply::Dropped(_) => true,
         _ => false,
     }
+}
+
+// Whether the reply says that the values were taken.
+fn is_accepted(reply: Reply) -> bool
+    ensures { result ≡ is_accepted (told_by reply) }
+{
+    match reply {
+        Reply::Accepted { .. } => true,
+        _ => false,
+    }
+}
+
+// Whether all were reported, with one more of this reply.
+fn still_all(all_reported: bool, reply: Reply) -> bool
+    ensures { result ≡ (all_reported && is_accepted (told_by reply)) }
+{
+    all_reported && is_accepted(reply)
 }
 
 impl<'a, F: ItemFn, G: Gate> Engine<'a, F, G> {
@@ -63,6 +80,7 @@ impl<'a, F: ItemFn, G: Gate> Engine<'a, F, G> {
         let (mut board, hold) = self.board.take(rt);
         self.future.meet(rt, pass, &mut board.pass);
         board.tally.gather(&self.counter, piece);
+        board.all_reported = false;
         self.board.put(board, hold);
     }
 
@@ -74,11 +92,11 @@ impl<'a, F: ItemFn, G: Gate> Engine<'a, F, G> {
         piece: Piece,
         values: List<Bytes>,
     ) -> Result<bool, Piece>
-        requires board { IsBoard F.value self.now board.old.tally board.old.pass }
+        requires board { IsBoard F.value self.now board.old.tally board.old.pass board.old.all_reported }
         requires piece { IsPieceOf self.now piece }
         requires values { values ≡ texts_in (work_of F.value self.now) (range_in self.now piece) }
         requires good { first_bad (work_of F.value self.now) (range_in self.now piece) ≡ None }
-        ensures board { IsBoard F.value self.now board.new.tally board.new.pass }
+        ensures board { IsBoard F.value self.now board.new.tally board.new.pass board.new.all_reported }
         ensures ok { IfOk result (IsHandedIn (reporter self.now) board.new.pass.known (range_in self.now piece)) }
         ensures back { IfErr result (λ back. back ≡ piece) }
     {
@@ -90,6 +108,7 @@ impl<'a, F: ItemFn, G: Gate> Engine<'a, F, G> {
         {
             Ok(reply) => {
                 board.tally.gather(&self.counter, piece);
+                board.all_reported = still_all(board.all_reported, reply);
                 Ok(!is_dropped(reply))
             }
             Err(NoMemory) => Err(piece),

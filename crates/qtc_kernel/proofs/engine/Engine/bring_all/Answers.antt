@@ -17,8 +17,11 @@ loop-pass-preserved g c =
     let are : items ≡ desk ∷ rest = taken_first items rest desk (omega arith) c.remove.ensures.value c.remove.ensures.items in
     let P : DeskState g.row.F.Denot → Type 0 = λ d. Meets d.pass c.args.pass.now.known in
     record {
-      known = told.pass.0 ∙ was.known;
-      of = told.pass.1 ∙ was.of;
+      same = record {
+        of = told.pass.of ∙ was.same.of;
+        known = told.pass.known ∙ was.same.known;
+        children = told.pass.children ∙ was.same.children;
+      };
       counter = ap (λ (t : TallyState). t.of) told.tally ∙ was.counter;
       apart = told.apart;
       workers =
@@ -38,7 +41,7 @@ loop-pass-preserved g c =
       met = (
         was.met.0 ++ desk ∷ [],
         was.met.1 ∙ ap (λ ds. was.met.0 ++ ds) are ∙ sym (append_assoc was.met.0 (desk ∷ []) rest),
-        All-push P was.met.0 desk was.met.2 (subst (Meets desk.pass) was.known told.met),
+        All-push P was.met.0 desk was.met.2 (subst (Meets desk.pass) was.same.known told.met),
       );
     }
 

@@ -2,14 +2,13 @@ use Rattle.std.proofs.Common.{◌≡◌, ◌++◌, List, All, IsTrue, length}
 use Rattle.qtc_claim.specs.Counter.{IsGathered}
 use Rattle.qtc_shared.specs.Passes.{Meets}
 use Rattle.qtc_kernel.specs.EngineParts.{DeskState, IsDesk}
-use Rattle.qtc_kernel.specs.Endings.{functions_at, workers_at}
+use Rattle.qtc_kernel.specs.Endings.{KnowsTheSame, functions_at, workers_at}
 use Rattle.qtc_kernel.proofs.engine.Engine.bring_all.Given as goal
 
 -- what is gathered and what is left are all
 abbrev pub invariant-loop-pass : goal.invariant-loop-pass
 invariant-loop-pass g l = record {
-  known : l.pass.known ≡ l.fn.pass.known;
-  of : l.pass.of ≡ l.fn.pass.of;
+  same : KnowsTheSame l.fn.pass l.pass;
   counter : l.tally.of ≡ l.fn.tally.of;
   apart : IsGathered l.self.counter l.tally;
   workers : l.tally.workers ++ workers_at l.desks.items ≡ l.fn.tally.workers ++ workers_at l.fn.desks.items;

@@ -3,13 +3,13 @@ use Rattle.std.specs.Prelude.{option_copied, slice_get, slice_index_or}
 use Rattle.std.proofs.lemmas.Option.{get_or_from_slice_get}
 use Rattle.qtc_events.specs.declared.calls.Call.TheVariants.{Fail}
 use Rattle.qtc_future.specs.declared.requests.Request.TheVariants.{Fail as AskFail}
-use Rattle.qtc_shared.specs.Passes.{IsHold, PassState, Stays}
-use Rattle.qtc_kernel.specs.EngineParts.{IsFailedCall, IsOwnCall, KnowsEnd, work_of}
+use Rattle.qtc_shared.specs.Passes.{PassState}
+use Rattle.qtc_kernel.specs.EngineParts.{IsFailedCall, IsOwnCall, work_of}
 use Rattle.qtc_kernel.specs.Turns.{HasMade}
 use Rattle.qtc_kernel.specs.Working.{IsLeaving}
 use Rattle.qtc_kernel.specs.Workload.{item_at}
 use Rattle.qtc_kernel.proofs.AtDesks.{desk_leaves, own_fail}
-use Rattle.qtc_kernel.proofs.Passing.{HasCalled, called_end, called_on, called_own, failed_ends, failed_stood, goes_further, goes_same, knows_met, knows_on, stayed_on, stayed_own}
+use Rattle.qtc_kernel.proofs.Passing.{HasCalled, called_end, called_on, called_own, failed_ends, failed_stood, goes_further, goes_same, knows_met, stayed_on, stayed_own}
 use Rattle.qtc_kernel.proofs.engine.Engine.fail.Goals as goal
 
 pub gather-requires-clause-ended : goal.gather-requires-clause-ended

@@ -1,4 +1,4 @@
-use Rattle.std.proofs.Common.{◌≡◌, ℕ, List, [], All, true, ap, arith, refl, sym, subst, ◌∙◌}
+use Rattle.std.proofs.Common.{ℕ, List, [], All, true, ap, arith, refl, sym, subst, ◌∙◌}
 use Rattle.std.proofs.lemmas.List.Elements.{All-weaker}
 use Rattle.qtc_events.specs.declared.calls.Call.TheVariants.{Cancel}
 use Rattle.qtc_future.specs.declared.requests.Request.TheVariants.{Cancel as AskCancel}

@@ -8,8 +8,8 @@ use Rattle.qtc_kernel.proofs.engine.Engine.hand_in.Goals as goal
 
 pub put-requires-clause-fits : goal.put-requires-clause-fits
 put-requires-clause-fits g c κs within =
-    subst (λ parts. IsBoard g.F.ItemFn.value parts c.report-told.new.board.tally c.meet.new.other) (sym c.self.view_is)
-    (board_stays g.F.ItemFn.value c.args.self.now c.report-told.new.board.tally c.report-told.new.board.pass c.meet.new.other c.report-told.ensures.board c.meet.ensures.other)
+    subst (λ parts. IsBoard g.F.ItemFn.value parts c.report-told.new.board.tally c.meet.new.other c.report-told.new.board.all_reported) (sym c.self.view_is)
+    (board_stays g.F.ItemFn.value c.args.self.now c.report-told.new.board.tally c.report-told.new.board.pass c.meet.new.other c.report-told.new.board.all_reported c.report-told.ensures.board c.meet.ensures.other)
 
 pub returns-clause-ok : goal.returns-clause-ok
 returns-clause-ok g c =

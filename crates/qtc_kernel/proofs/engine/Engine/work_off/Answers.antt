@@ -1,9 +1,9 @@
-use Rattle.std.proofs.Common.{◌≤◌, ◌⊎◌, refl, sym, subst}
+use Rattle.std.proofs.Common.{◌≤◌, ◌⊎◌, ap, refl, sym, subst, ◌∙◌}
 use Rattle.qtc_kernel.specs.EngineParts.{HasMetEnd, IsDesk}
 use Rattle.qtc_kernel.specs.Desks.{desk_state}
 use Rattle.qtc_kernel.specs.Turns.{GoesOn}
 use Rattle.qtc_kernel.proofs.AtDesks.{desk_on}
-use Rattle.qtc_kernel.proofs.Turning.{last_over}
+use Rattle.qtc_kernel.proofs.Turning.{lacked_none, last_over}
 use Rattle.qtc_kernel.proofs.engine.Engine.work_off.Goals as goal
 
 pub returns-clause-first : goal.returns-clause-first
@@ -21,3 +21,7 @@ returns-clause-over g c =
     subst (λ d. (parts.counter.n ≤ d.seat.worker.seen) ⊎ HasMetEnd c.meet_each.new.pass) (sym c.first.view_is)
     (last_over g.F.ItemFn.value g.F.ItemFn.called parts _ c.work.new.desk c.work.result c.work.ensures.turn c.meet_each.new.pass
     (subst (λ d. GoesOn d.pass c.meet_each.new.pass) c.first.view_is c.meet_each.ensures.pass))
+
+pub returns-clause-lacks : goal.returns-clause-lacks
+returns-clause-lacks g c = λ none.
+    sym (ap (λ d. d.lacks) c.enter.ensures.only) ∙ lacked_none c.enter.new.desk.lacks c.work.result (sym c.work.ensures.lacks ∙ ap (λ d. d.lacks) (sym c.first.view_is) ∙ none)

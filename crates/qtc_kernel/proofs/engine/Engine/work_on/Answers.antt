@@ -1,7 +1,6 @@
-use Rattle.std.proofs.Common.{◌≡◌, ℕ, ◌+◌, ◌≤◌, ◌++◌, List, Some, ap, arith, refl, sym, subst, ◌∙◌}
+use Rattle.std.proofs.Common.{◌≡◌, ℕ, ◌+◌, ◌≤◌, ◌++◌, Some, ap, arith, refl, sym, subst, ◌∙◌}
 use Rattle.qtc_claim.specs.Claims.{clipped}
 use Rattle.qtc_claim.specs.Counter.{CounterId}
-use Rattle.qtc_shared.specs.Passes.{PassState}
 use Rattle.qtc_kernel.specs.EngineParts.{FitTogether, work_of}
 use Rattle.qtc_kernel.specs.Desks.{desk_state}
 use Rattle.qtc_kernel.specs.Inside.{IsBlockOf, called_in}

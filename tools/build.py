@@ -3,10 +3,10 @@
 
     tools/build.py
 
-By hand, before a first ./qtc, which then finds what is proved here. Each library is proved by `rt lib` in a folder of its own, a copy
-of its sources and of the libraries below it, since rt lets one command at a time work above a library; what it leaves goes to
-the crate's out/. Then `rt run` proves the program over them, links it and runs it without words. rt decides by the sums of
-all sources what is proved already, and proves what isn't: so nothing depends on this script but the time.
+./qtc calls it where the program isn't built or is older than its sources. Each library is proved by `rt lib` in a folder of its
+own, a copy of its sources and of the libraries below it, since rt lets one command at a time work above a library; what it leaves
+goes to the crate's out/. Then `rt run` proves the program over them, links it and runs it without words. rt decides by the sums
+of all sources what is proved already, and proves what isn't: so nothing depends on this script but the time.
 
 How many run at once is a matter of processors and of memory (2 GB each); the libraries under the longest chain come first, and
 get what processors are over. A build that was broken off goes on where it was. A second one waits for the first.

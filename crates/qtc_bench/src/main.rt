@@ -5,6 +5,7 @@ use claims::print_claims;
 use digests::print_digests;
 use future_waits::{Waiting, print_future_wait};
 use futures::print_futures;
+use in_place::print_in_place;
 use locks::print_locks;
 use operations::print_operations;
 use pools::{print_pool_wait, print_pools};
@@ -22,6 +23,7 @@ mod claims;
 mod digests;
 mod future_waits;
 mod futures;
+mod in_place;
 mod locks;
 mod operations;
 mod pools;
@@ -40,6 +42,7 @@ usage: qtc_bench ops    the operations of jobs over 1000000 lines, ns an item
        qtc_bench fill ascending|descending|shuffled    1000000 batches in a store
        qtc_bench claim  claims of 16 indexes beside a bare word, ns for a claim
        qtc_bench future a shared future beside std's lock round its core, ns for a call
+       qtc_bench inplace 1000000 members mapped and filtered in place by 1, 2 and 4 functions, ns a member
        qtc_bench pool   tasks through a pool beside std's queue under its lock, ns a task
        qtc_bench wait lock|bell|resume|pause|finish|result|pool    who waits for a second, ms
 ";
@@ -87,6 +90,7 @@ fn measure<R: Wait + Threads + Sync + Clock + Print>(
         "store" => print_stores(rt, alloc)?,
         "claim" => print_claims(rt, alloc)?,
         "future" => print_futures(rt, alloc)?,
+        "inplace" => print_in_place(rt, alloc)?,
         "pool" => print_pools(rt, alloc)?,
         _ => return Ok(false),
     }

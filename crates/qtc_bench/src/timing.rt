@@ -17,6 +17,15 @@ pub trait Work {
     /// In a trait the bound `Sync` alone doesn't tell a body that threads may share the handle.
     fn run<R: Wait + Threads + Sync>(&self, rt: &R) -> io::Result<u64>
         requires { IsSync R.row };
+
+    /// Does the work once, and tells how long it took. Work that changes a list makes it before, and frees it after.
+    fn time<R: Clock + Wait + Threads + Sync>(&self, rt: &R) -> io::Result<Timed>
+        requires { IsSync R.row }
+    {
+        let begin = Instant::now(rt)?;
+        let answer = self.run(rt)?;
+        Timed::since(rt, begin, answer)
+    }
 }
 
 /// A row of a table: work under its name, and the row whose time its own is compared with.
@@ -54,15 +63,15 @@ pub struct Timed {
     pub answer: u64,
 }
 
-/// Does the work once.
-fn time<R: Clock + Wait + Threads + Sync, W: Work>(rt: &R, work: &W) -> io::Result<Timed> {
-    let begin = Instant::now(rt)?;
-    let answer = work.run(rt)?;
-    let nanos = begin.elapsed(rt)?.as_nanos();
-    Ok(Timed {
-        nanos: u64::try_from(nanos).unwrap_or(u64::MAX),
-        answer,
-    })
+impl Timed {
+    /// The time from then to now, with this answer.
+    pub fn since<R: Clock>(rt: &R, begin: Instant, answer: u64) -> io::Result<Timed> {
+        let nanos = begin.elapsed(rt)?.as_nanos();
+        Ok(Timed {
+            nanos: u64::try_from(nanos).unwrap_or(u64::MAX),
+            answer,
+        })
+    }
 }
 
 /// The first time of each row.
@@ -73,7 +82,7 @@ fn first_times<R: Clock + Wait + Threads + Sync, W: Work>(
 ) -> io::Result<Vec<Timed>> {
     let mut times = Vec::new(alloc);
     for row in rows {
-        times.push(time(rt, &row.work)?)?;
+        times.push(row.work.time(rt)?)?;
     }
     Ok(times)
 }
@@ -85,7 +94,7 @@ fn time_again<R: Clock + Wait + Threads + Sync, W: Work>(
     times: &mut Vec<Timed>,
 ) -> io::Result<()> {
     for (row, best) in rows.iter().zip(times.iter_mut()) {
-        let next = time(rt, &row.work)?;
+        let next = row.work.time(rt)?;
         if next.nanos < best.nanos {
             *best = next;
         }

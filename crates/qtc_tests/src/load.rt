@@ -1,3 +1,5 @@
+ghost use Rattle.std.specs.Prelude.{◌≤◌};
+
 use qtc_base::{Bytes, List, NoMemory};
 use qtc_job::BadJob;
 use qtc_load::{FileFault, load_file, load_texts};
@@ -74,7 +76,7 @@ fn what_stops_is_told(rt: HostRuntime) -> Result<(), Fail> {
     // The last has no text under the name that it names.
     for (file, fails, want) in [
         (b"# none\n".as_slice(), [9].as_slice(), None),
-        (b"job a\nbogus\n", &[9], Some(FileFault::Bad(bad))),
+        (b"# none\nbogus\n", &[9], Some(FileFault::Bad(bad))),
         (b"# none\n", &[0], Some(FileFault::Read)),
         (
             b"job a\ninput lines t\nmap same\n",

@@ -1,5 +1,5 @@
 -- A call of the form check.
-use Rattle.std.proofs.Common.{◌≡◌, ◌≢◌, ℕ, ◌≤◌, List, Some, length, refl, sym, ap, ◌∙◌, inl, inr, arith}
+use Rattle.std.proofs.Common.{◌≡◌, ◌≢◌, ℕ, ◌≤◌, List, Some, length, refl, sym, subst, ap, ◌∙◌, inl, inr, arith}
 use Rattle.qtc_outside.specs.Source.{Source, IsCalm}
 use Rattle.qtc_outside.specs.Intake.{Intake}
 use Rattle.qtc_outside.specs.Loading.{Loads, FailsToLoad, IsTooLong}
@@ -19,7 +19,7 @@ use Rattle.qtc_load.specs.declared.faults.FileFault.{FileFault}
 use Rattle.qtc_load.specs.declared.faults.FileFault.TheVariants.{Bad as BadFile, Read as FileRead, TooLong as FileTooLong, Memory as FileMemory}
 use Rattle.qtc_cli.specs.declared.refusals.Refusal.{Refusal}
 use Rattle.qtc_cli.specs.declared.refusals.Refusal.TheVariants.{Usage, Bad, ReadFault, WriteFault, Memory, TooLarge, NotYet}
-use Rattle.qtc_cli.proofs.Ends.{two-at-least, keeps-refused, keeps-done, keeps-cut}
+use Rattle.qtc_cli.proofs.Ends.{keeps-cut, keeps-done, keeps-refused, refusal_with, said-with, status-within}
 use Rattle.qtc_load.proofs.Texts.{calm-same}
 
 -- ---- a file that can be read is not refused
@@ -63,42 +63,27 @@ check-name words a b p q = cc
 
 -- ---- each status of a refusal, where it was told
 
-stops-bad : (name : List ℕ) (call : Seen) (said : Refusal) → FileStops name call.texts said call.texts_after → call.status ≡ status_of said → Hears (line_of said) call.err call.err_after → call.status ≡ 3 → IsBadJob name call
-stops-bad name call Usage stops is hears three = absurd stops
-stops-bad name call (Bad bad) stops is hears three = record { bad = bad; loads = stops; hears = hears }
-stops-bad name call ReadFault stops is hears three = absurd (omega arith)
-stops-bad name call WriteFault stops is hears three = absurd stops
-stops-bad name call Memory stops is hears three = absurd (omega arith)
-stops-bad name call TooLarge stops is hears three = absurd (omega arith)
-stops-bad name call NotYet stops is hears three = absurd stops
+module _ (name : List ℕ) (call : Seen) (said : Refusal) (stops : FileStops name call.texts said call.texts_after) where
+  -- what stops a check, told with this status
+  stops-with : (status : ℕ) → status_of said ≡ status → (bad : BadJob) × (said ≡ refusal_with status bad) × FileStops name call.texts (refusal_with status bad) call.texts_after
+  stops-with status is =
+      let with = said-with said status is in
+      (with.0, with.1, subst (λ said. FileStops name call.texts said call.texts_after) with.1 stops)
 
-stops-fault : (name : List ℕ) (call : Seen) (said : Refusal) → FileStops name call.texts said call.texts_after → call.status ≡ status_of said → call.status ≡ 4 → FailsToLoad most_job_file call.texts name call.texts_after
-stops-fault name call Usage stops is four = absurd stops
-stops-fault name call (Bad bad) stops is four = absurd (omega arith)
-stops-fault name call ReadFault stops is four = stops
-stops-fault name call WriteFault stops is four = absurd stops
-stops-fault name call Memory stops is four = absurd (omega arith)
-stops-fault name call TooLarge stops is four = absurd (omega arith)
-stops-fault name call NotYet stops is four = absurd stops
+  stops-bad : Hears (line_of said) call.err call.err_after → status_of said ≡ 3 → IsBadJob name call
+  stops-bad hears three =
+      let is = stops-with 3 three in
+      record { bad = is.0; loads = is.2; hears = subst (λ said. Hears (line_of said) call.err call.err_after) is.1 hears }
 
-stops-large : (name : List ℕ) (call : Seen) (said : Refusal) → FileStops name call.texts said call.texts_after → call.status ≡ status_of said → call.status ≡ 7 → IsTooLong most_job_file call.texts name call.texts_after
-stops-large name call Usage stops is seven = absurd stops
-stops-large name call (Bad bad) stops is seven = absurd (omega arith)
-stops-large name call ReadFault stops is seven = absurd (omega arith)
-stops-large name call WriteFault stops is seven = absurd stops
-stops-large name call Memory stops is seven = absurd (omega arith)
-stops-large name call TooLarge stops is seven = stops
-stops-large name call NotYet stops is seven = absurd stops
+  stops-fault : status_of said ≡ 4 → FailsToLoad most_job_file call.texts name call.texts_after
+  stops-fault four = (stops-with 4 four).2
 
--- these statuses no refusal of a job file has
-stops-never : (name : List ℕ) (old new : Source) (said : Refusal) → FileStops name old said new → (status_of said ≢ 2) × (status_of said ≢ 5) × (status_of said ≢ 8)
-stops-never name old new Usage stops = absurd stops
-stops-never name old new (Bad bad) stops = (λ e. omega arith, λ e. omega arith, λ e. omega arith)
-stops-never name old new ReadFault stops = (λ e. omega arith, λ e. omega arith, λ e. omega arith)
-stops-never name old new WriteFault stops = absurd stops
-stops-never name old new Memory stops = (λ e. omega arith, λ e. omega arith, λ e. omega arith)
-stops-never name old new TooLarge stops = (λ e. omega arith, λ e. omega arith, λ e. omega arith)
-stops-never name old new NotYet stops = absurd stops
+  stops-large : status_of said ≡ 7 → IsTooLong most_job_file call.texts name call.texts_after
+  stops-large seven = (stops-with 7 seven).2
+
+  -- these statuses no refusal of a job file has
+  stops-never : (status_of said ≢ 2) × (status_of said ≢ 5) × (status_of said ≢ 8)
+  stops-never = (λ two. (stops-with 2 two).2, λ five. (stops-with 5 five).2, λ eight. (stops-with 8 eight).2)
 
 stops-calm : (name : List ℕ) (old new : Source) (said : Refusal) → FileStops name old said new → status_of said ≢ 4 → IsCalm old new
 stops-calm name old new Usage stops away = absurd stops
@@ -123,15 +108,15 @@ stops-complete call name NotYet stops text file held short reads none = absurd s
 
 check-refused : (call : Seen) (name : List ℕ) (said : Refusal) → ChecksFile call name → FileStops name call.texts said call.texts_after → call.status ≡ status_of said → Hears (line_of said) call.err call.err_after → call.out_after ≡ call.out → IsCheck call
 check-refused call name said named stops is hears same =
-    let never = stops-never name call.texts call.texts_after said stops in
-    let least = two-at-least said in
+    let never = stops-never name call said stops in
+    let least = (status-within said).0 in
     record {
       checked = λ zero. absurd (omega arith);
       usage = (λ two. absurd (never.0 (sym is ∙ two)), λ unnamed. absurd (unnamed name named));
-      bad_job = λ three. (name, named, stops-bad name call said stops is hears three);
-      read_fault = λ four. (name, named, stops-fault name call said stops is four);
+      bad_job = λ three. (name, named, stops-bad name call said stops hears (sym is ∙ three));
+      read_fault = λ four. (name, named, stops-fault name call said stops (sym is ∙ four));
       write_fault = λ five. absurd (never.1 (sym is ∙ five));
-      too_large = λ seven. (name, named, stops-large name call said stops is seven);
+      too_large = λ seven. (name, named, stops-large name call said stops (sym is ∙ seven));
       never_failed = λ one. omega arith;
       never_unready = λ eight. never.2 (sym is ∙ eight);
       complete = λ can none.

@@ -1,6 +1,7 @@
 -- What the endings of a call make of it.
-use Rattle.std.proofs.Common.{◌≡◌, ◌≢◌, ℕ, ◌≤◌, inl, inr, arith}
+use Rattle.std.proofs.Common.{◌≡◌, ◌≢◌, ℕ, ◌≤◌, cond, eqb, inl, inr, refl, ap, ◌∙◌, arith}
 use Rattle.qtc_outside.specs.Source.{IsCalm}
+use Rattle.qtc_job.specs.declared.faults.BadJob.{BadJob}
 use Rattle.qtc_cli.specs.Answered.{IsDone, KeepsOutside}
 use Rattle.qtc_cli.specs.Refusals.{status_of, line_of, Hears}
 use Rattle.qtc_cli.specs.Seen.{Seen}
@@ -8,27 +9,42 @@ use Rattle.qtc_cli.specs.declared.refusals.Refusal.{Refusal}
 use Rattle.qtc_cli.specs.declared.refusals.Refusal.TheVariants.{Usage, Bad, ReadFault, WriteFault, Memory, TooLarge, NotYet}
 
 -- no refusal has the status of what is done
-pub two-at-least : (said : Refusal) → 2 ≤ status_of said
-two-at-least Usage = omega arith
-two-at-least (Bad bad) = omega arith
-two-at-least ReadFault = omega arith
-two-at-least WriteFault = omega arith
-two-at-least Memory = omega arith
-two-at-least TooLarge = omega arith
-two-at-least NotYet = omega arith
+pub status-within : (said : Refusal) → (2 ≤ status_of said) × (status_of said ≤ 8)
+status-within Usage = (omega arith, omega arith)
+status-within (Bad bad) = (omega arith, omega arith)
+status-within ReadFault = (omega arith, omega arith)
+status-within WriteFault = (omega arith, omega arith)
+status-within Memory = (omega arith, omega arith)
+status-within TooLarge = (omega arith, omega arith)
+status-within NotYet = (omega arith, omega arith)
 
-pub eight-at-most : (said : Refusal) → status_of said ≤ 8
-eight-at-most Usage = omega arith
-eight-at-most (Bad bad) = omega arith
-eight-at-most ReadFault = omega arith
-eight-at-most WriteFault = omega arith
-eight-at-most Memory = omega arith
-eight-at-most TooLarge = omega arith
-eight-at-most NotYet = omega arith
+-- ---- the status determines the refusal, but for the place of a bad job file
+
+abbrev place_of : Refusal → BadJob
+place_of (Bad bad) = bad
+place_of _ = record { line = 0; code = 0 }
+
+abbrev pub refusal_with : ℕ → BadJob → Refusal
+refusal_with status bad =
+    cond (eqb status 2) Usage (cond (eqb status 3) (Bad bad) (cond (eqb status 4) ReadFault (cond (eqb status 5) WriteFault
+    (cond (eqb status 6) Memory (cond (eqb status 7) TooLarge NotYet)))))
+
+determined : (said : Refusal) → said ≡ refusal_with (status_of said) (place_of said)
+determined Usage = refl
+determined (Bad bad) = refl
+determined ReadFault = refl
+determined WriteFault = refl
+determined Memory = refl
+determined TooLarge = refl
+determined NotYet = refl
+
+-- what is said with a status
+pub said-with : (said : Refusal) (status : ℕ) → status_of said ≡ status → (bad : BadJob) × (said ≡ refusal_with status bad)
+said-with said status is = (place_of said, determined said ∙ ap (λ status. refusal_with status (place_of said)) is)
 
 pub not-done : (status : ℕ) (said : Refusal) → status ≡ status_of said → IsDone status → ⊥
 not-done status said is done =
-    let two = two-at-least said in
+    let two = (status-within said).0 in
     elim done [
       | inl zero ↦ omega arith
       | inr one ↦ omega arith

@@ -1,31 +1,28 @@
 -- A call of the form run.
-use Rattle.std.proofs.Common.{◌≡◌, ◌≢◌, ℕ, ◌+◌, ◌-◌, ◌<◌, ◌≤◌, List, [], ◌∷◌, ◌++◌, min, take, drop, Bool, true, false, cond, Option, Some, None, length, refl, sym, ap, ◌∙◌, inl, inr, arith}
+use Rattle.std.proofs.Common.{◌≡◌, ◌≢◌, ℕ, ◌+◌, ◌-◌, ◌<◌, ◌≤◌, List, [], ◌∷◌, ◌++◌, min, Bool, true, false, cond, Option, Some, None, length, refl, sym, subst, ap, ◌∙◌, inl, inr, arith}
 use Rattle.std.specs.List.{list_any}
 use Rattle.std.specs.Prelude.{◌↔◌, All, IfSome, IsTrue, map}
 use Rattle.std.proofs.lemmas.Bool.{true≢false}
-use Rattle.std.proofs.lemmas.Grind.{common_steps, flat_map-append}
-use Rattle.std.proofs.lemmas.List.{take-append-drop, length-append}
+use Rattle.std.proofs.lemmas.Grind.{common_steps}
 use Rattle.std.proofs.lemmas.List.Elements.{All-head, All-tail}
 use Rattle.std.proofs.lemmas.List.Sums.{sum_by-append}
-use Rattle.qtc_base.specs.Items.{PassesLimit}
 use Rattle.qtc_outside.specs.Source.{Source, IsCalm}
 use Rattle.qtc_outside.specs.Intake.{Intake}
 use Rattle.qtc_outside.specs.declared.loading.LoadFault.TheVariants.{TooLong}
 use Rattle.qtc_job_file.specs.declared.jobs.JobFile.{JobFile}
 use Rattle.qtc_base.specs.Limits.{most_job_file, most_text, most_texts}
-use Rattle.qtc_job_file.specs.declared.jobs.Job.{Job}
-use Rattle.qtc_kernel.specs.Workload.{bad_indexes}
-use Rattle.qtc_run.specs.Laws.{GoodJobsFinish}
-use Rattle.qtc_run.specs.Reports.{AreReports, has_failed, is_unfinished}
+use Rattle.qtc_job.specs.Laws.{FilesThatAreReadAreLawful}
+use Rattle.qtc_job.specs.declared.faults.BadJob.{BadJob}
+use Rattle.qtc_run.specs.GoodRuns.{AreGood}
+use Rattle.qtc_run.specs.Laws.{GoodRunsFinish}
+use Rattle.qtc_run.specs.Outputs.{has_failed, is_unfinished}
 use Rattle.qtc_run.specs.Runnable.{are_runnable}
-use Rattle.qtc_run.specs.Sources.{items_of, items_of_all, work_of}
 use Rattle.qtc_job_file.specs.Texts.{Texts}
-use Rattle.qtc_run.specs.Sums.{items_up_to, RefusesRun as JobsStop}
+use Rattle.qtc_run.specs.Sums.{RefusesRun as JobsStop}
 use Rattle.qtc_run.specs.declared.reports.JobReport.{JobReport}
 use Rattle.qtc_run.specs.declared.reports.Report.{Report}
 use Rattle.qtc_run.specs.declared.reports.RunFault.{RunFault}
 use Rattle.qtc_run.specs.declared.reports.RunFault.TheVariants.{TooLarge as ItemsTooLarge, Memory as RunMemory}
-use Rattle.qtc_future.specs.declared.replies.Outcome.TheVariants.{Values}
 use Rattle.qtc_cli.specs.Answered.{IsDone, IsBadJob, HasNoFaults}
 use Rattle.qtc_cli.specs.Check.{CheckEnds}
 use Rattle.qtc_cli.specs.Endings.{IsRefused, WritesAll, WritesFront}
@@ -34,12 +31,12 @@ use Rattle.qtc_load.specs.Loads.{FileNotRead, LoadsFile, LoadsTexts, texts_named
 use Rattle.qtc_load.specs.declared.faults.FileFault.{FileFault}
 use Rattle.qtc_load.specs.declared.faults.FileFault.TheVariants.{Bad as BadFile, Read as FileRead, TooLong as FileTooLong, Memory as FileMemory}
 use Rattle.qtc_cli.specs.Refusals.{file_refusal, run_refusal, status_of, line_of, Hears, SaysFor}
-use Rattle.qtc_cli.specs.Run.{AreGood, AsksFor, RunsFile, Ran, IsRunOf, IsTextRefused, IsReadFault, HasManyItems, IsTooLarge, IsNotYet, CanRun, RunsAsSaid, IsCall, RunStops, done_status, RunEnds}
+use Rattle.qtc_cli.specs.Run.{AsksFor, RunsFile, Ran, IsRunOf, IsTextRefused, IsReadFault, HasManyItems, IsTooLarge, IsNotYet, CanRun, RunsAsSaid, IsCall, RunStops, done_status, RunEnds}
 use Rattle.qtc_cli.specs.Seen.{Seen, seen}
 use Rattle.qtc_cli.specs.declared.refusals.Refusal.{Refusal}
 use Rattle.qtc_cli.specs.declared.refusals.Refusal.TheVariants.{Usage, Bad, ReadFault, WriteFault, Memory, TooLarge, NotYet}
 use Rattle.qtc_cli.proofs.Checks.{not-bad, file-same, not-too-long, check-call-of, usage-said}
-use Rattle.qtc_cli.proofs.Ends.{eight-at-most, not-done, keeps-refused, keeps-done, keeps-cut}
+use Rattle.qtc_cli.proofs.Ends.{keeps-cut, keeps-done, keeps-refused, not-done, refusal_with, said-with, status-within}
 use Rattle.qtc_load.proofs.Texts.{calm-same, calm-then}
 
 -- ---- texts that are held are those that are loaded
@@ -99,50 +96,29 @@ front-of source (b ∷ before) (h ∷ held) name after e told are =
 
 -- ---- each status of a refusal, where it was told
 
-run-bad : (name : List ℕ) (call : Seen) (said : Refusal) → RunStops name call.texts said call.texts_after → call.status ≡ status_of said → Hears (line_of said) call.err call.err_after → call.status ≡ 3 → IsBadJob name call
-run-bad name call Usage stops is hears three = absurd stops
-run-bad name call (Bad bad) stops is hears three = record { bad = bad; loads = stops; hears = hears }
-run-bad name call ReadFault stops is hears three = absurd (omega arith)
-run-bad name call WriteFault stops is hears three = absurd stops
-run-bad name call Memory stops is hears three = absurd (omega arith)
-run-bad name call TooLarge stops is hears three = absurd (omega arith)
-run-bad name call NotYet stops is hears three = absurd (omega arith)
+module _ (name : List ℕ) (call : Seen) (said : Refusal) (stops : RunStops name call.texts said call.texts_after) where
+  -- what stops a run, told with this status
+  stops-with : (status : ℕ) → status_of said ≡ status → (bad : BadJob) × (said ≡ refusal_with status bad) × RunStops name call.texts (refusal_with status bad) call.texts_after
+  stops-with status is =
+      let with = said-with said status is in
+      (with.0, with.1, subst (λ said. RunStops name call.texts said call.texts_after) with.1 stops)
 
-run-fault : (name : List ℕ) (call : Seen) (said : Refusal) → RunStops name call.texts said call.texts_after → call.status ≡ status_of said → call.status ≡ 4 → IsReadFault name call.texts call.texts_after
-run-fault name call Usage stops is four = absurd stops
-run-fault name call (Bad bad) stops is four = absurd (omega arith)
-run-fault name call ReadFault stops is four = stops
-run-fault name call WriteFault stops is four = absurd stops
-run-fault name call Memory stops is four = absurd (omega arith)
-run-fault name call TooLarge stops is four = absurd (omega arith)
-run-fault name call NotYet stops is four = absurd (omega arith)
+  run-bad : Hears (line_of said) call.err call.err_after → status_of said ≡ 3 → IsBadJob name call
+  run-bad hears three =
+      let is = stops-with 3 three in
+      record { bad = is.0; loads = is.2; hears = subst (λ said. Hears (line_of said) call.err call.err_after) is.1 hears }
 
-run-large : (name : List ℕ) (call : Seen) (said : Refusal) → RunStops name call.texts said call.texts_after → call.status ≡ status_of said → call.status ≡ 7 → IsTooLarge name call.texts call.texts_after
-run-large name call Usage stops is seven = absurd stops
-run-large name call (Bad bad) stops is seven = absurd (omega arith)
-run-large name call ReadFault stops is seven = absurd (omega arith)
-run-large name call WriteFault stops is seven = absurd stops
-run-large name call Memory stops is seven = absurd (omega arith)
-run-large name call TooLarge stops is seven = stops
-run-large name call NotYet stops is seven = absurd (omega arith)
+  run-fault : status_of said ≡ 4 → IsReadFault name call.texts call.texts_after
+  run-fault four = (stops-with 4 four).2
 
-run-unready : (name : List ℕ) (call : Seen) (said : Refusal) → RunStops name call.texts said call.texts_after → call.status ≡ status_of said → call.status ≡ 8 → IsNotYet name call.texts call.texts_after
-run-unready name call Usage stops is eight = absurd stops
-run-unready name call (Bad bad) stops is eight = absurd (omega arith)
-run-unready name call ReadFault stops is eight = absurd (omega arith)
-run-unready name call WriteFault stops is eight = absurd stops
-run-unready name call Memory stops is eight = absurd (omega arith)
-run-unready name call TooLarge stops is eight = absurd (omega arith)
-run-unready name call NotYet stops is eight = stops
+  run-large : status_of said ≡ 7 → IsTooLarge name call.texts call.texts_after
+  run-large seven = (stops-with 7 seven).2
 
-run-never : (name : List ℕ) (old new : Source) (said : Refusal) → RunStops name old said new → (status_of said ≢ 2) × (status_of said ≢ 5)
-run-never name old new Usage stops = absurd stops
-run-never name old new (Bad bad) stops = (λ e. omega arith, λ e. omega arith)
-run-never name old new ReadFault stops = (λ e. omega arith, λ e. omega arith)
-run-never name old new WriteFault stops = absurd stops
-run-never name old new Memory stops = (λ e. omega arith, λ e. omega arith)
-run-never name old new TooLarge stops = (λ e. omega arith, λ e. omega arith)
-run-never name old new NotYet stops = (λ e. omega arith, λ e. omega arith)
+  run-unready : status_of said ≡ 8 → IsNotYet name call.texts call.texts_after
+  run-unready eight = (stops-with 8 eight).2
+
+  run-never : (status_of said ≢ 2) × (status_of said ≢ 5)
+  run-never = (λ two. (stops-with 2 two).2, λ five. (stops-with 5 five).2)
 
 large-calm : (name : List ℕ) (old new : Source) → IsTooLarge name old new → IsCalm old new
 large-calm name old new large =
@@ -214,7 +190,7 @@ ready-items call can items =
     let same = file-same call.texts items.between can.name can.text can.file items.file can.held can.reads items.file_loads in
     let calm = items.file_loads.loads.calm in
     let texts = texts-same call.texts items.texts can.texts (items.texts_load.under ∙ (ap texts_named same ∙ sym can.under)) (rw calm.held at items.texts_load.told) can.told in
-    can.fits (rw (same, texts) at items.passes)
+    can.fits items.place items.number items.bytes (rw (same, texts) at items.passes)
 
 run-complete : (call : Seen) (can : CanRun call) (said : Refusal) → RunStops can.name call.texts said call.texts_after → HasNoFaults call → status_of said ≡ 6
 run-complete call can Usage stops none = absurd stops
@@ -234,28 +210,20 @@ run-complete call can NotYet stops none =
     let same = file-same call.texts call.texts_after can.name can.text can.file stops.file can.held can.reads stops.file_loads in
     absurd (stops.unready (rw (sym same) at can.runnable))
 
--- ---- a run over good items has no failed job
+-- ---- a run that nothing stops has no failed job
 
-ended-well : (job : JobReport) (values : List (List ℕ)) → job.ended ≡ Values values → is_unfinished job.ended ≡ false
-ended-well job values is = rw is refl
-
-none-failed : GoodJobsFinish → (texts : Texts) (jobs : List Job) (reports : List JobReport) → AreReports texts jobs reports → AreGood texts jobs → list_any (λ job. is_unfinished job.ended) reports ≡ false
-none-failed law texts [] [] each good = refl
-none-failed law texts [] (report ∷ reports) each good = absurd each
-none-failed law texts (job ∷ jobs) [] each good = absurd each
-none-failed law texts (job ∷ jobs) (report ∷ reports) each good =
-    let here = All-head (λ (j : Job). bad_indexes (work_of texts j) ≡ []) job jobs good in
-    let there = All-tail (λ (j : Job). bad_indexes (work_of texts j) ≡ []) job jobs good in
-    let ended = ended-well report _ (law job (work_of texts job) report each.0 here) in
-    rw (ended, none-failed law texts jobs reports each.1 there) refl
+none-failed : (reports : List JobReport) → All (λ (report : JobReport). is_unfinished report.ended ≡ false) reports → list_any (λ job. is_unfinished job.ended) reports ≡ false
+none-failed [] all = refl
+none-failed (report ∷ reports) all =
+    rw (All-head (λ (report : JobReport). is_unfinished report.ended ≡ false) report reports all, none-failed reports (All-tail (λ (report : JobReport). is_unfinished report.ended ≡ false) report reports all)) refl
 
 -- the file and the texts of a run are those that the source tells
-run-good : GoodJobsFinish → (call : Seen) (can : CanRun call) (workers : Option ℕ) (made : Report) (text : List ℕ) → IsRunOf can.name workers call.texts made text call.texts_after → AreGood can.texts can.file.jobs → has_failed made ≡ false
-run-good law call can workers made text is good =
+run-good : FilesThatAreReadAreLawful → GoodRunsFinish → (call : Seen) (can : CanRun call) (workers : Option ℕ) (made : Report) (text : List ℕ) → IsRunOf can.name workers call.texts made text call.texts_after → AreGood can.texts can.file.jobs → has_failed made ≡ false
+run-good read law call can workers made text is good =
     let same = file-same call.texts is.ran.between can.name can.text can.file is.file can.held can.reads is.ran.file_loads in
     let calm = is.ran.file_loads.loads.calm in
     let texts = texts-same call.texts is.texts can.texts (is.ran.texts_load.under ∙ (ap texts_named same ∙ sym can.under)) (rw calm.held at is.ran.texts_load.told) can.told in
-    none-failed law can.texts can.file.jobs made.jobs (rw (same, texts) at is.output.reports) good
+    none-failed made.jobs (law can.file can.texts made.jobs (read can.text can.file can.reads) (rw (same, texts) at is.output.reports) good)
 
 -- ---- whole calls
 
@@ -264,16 +232,16 @@ ran-calm name old new file texts ran = calm-then old ran.between new ran.file_lo
 
 run-refused : (call : Seen) (report : Option Report) (name : List ℕ) (said : Refusal) → RunsFile call name → RunStops name call.texts said call.texts_after → call.status ≡ status_of said → Hears (line_of said) call.err call.err_after → call.out_after ≡ call.out → report ≡ None → RunsAsSaid call report
 run-refused call report name said named stops is hears same nothing =
-    let never = run-never name call.texts call.texts_after said stops in
+    let never = run-never name call said stops in
     record {
       finished = λ done. absurd (not-done call.status said is done);
       usage = (λ two. absurd (never.0 (sym is ∙ two)), λ unnamed. absurd (let n = named.1 in cc));
-      bad_job = λ three. (name, named, run-bad name call said stops is hears three);
-      read_fault = λ four. (name, named, run-fault name call said stops is four);
+      bad_job = λ three. (name, named, run-bad name call said stops hears (sym is ∙ three));
+      read_fault = λ four. (name, named, run-fault name call said stops (sym is ∙ four));
       write_fault = λ five. absurd (never.1 (sym is ∙ five));
-      too_large = λ seven. (name, named, run-large name call said stops is seven);
-      not_yet = λ eight. (name, named, run-unready name call said stops is eight);
-      only = let most = eight-at-most said in omega arith;
+      too_large = λ seven. (name, named, run-large name call said stops (sym is ∙ seven));
+      not_yet = λ eight. (name, named, run-unready name call said stops (sym is ∙ eight));
+      only = let most = (status-within said).1 in omega arith;
       complete = λ can none.
           let same_name = run-name call.words can.name name can.named.0 named.0 can.named.1 named.1 in
           inr (is ∙ run-complete call can said (rw (sym same_name) at stops) none);
@@ -297,8 +265,8 @@ done-low status done =
       | inr one ↦ omega arith
     ]
 
-run-written : GoodJobsFinish → (call : Seen) (report : Option Report) (name : List ℕ) (workers : Option ℕ) (made : Report) (text : List ℕ) → AsksFor call workers name → report ≡ Some made → IsRunOf name workers call.texts made text call.texts_after → WritesAll text (done_status made) call.status call.out call.out_after call.err call.err_after → RunsAsSaid call report
-run-written law call report name workers made text named report_is run_is w =
+run-written : FilesThatAreReadAreLawful → GoodRunsFinish → (call : Seen) (report : Option Report) (name : List ℕ) (workers : Option ℕ) (made : Report) (text : List ℕ) → AsksFor call workers name → report ≡ Some made → IsRunOf name workers call.texts made text call.texts_after → WritesAll text (done_status made) call.status call.out call.out_after call.err call.err_after → RunsAsSaid call report
+run-written read law call report name workers made text named report_is run_is w =
     let done = is-done (has_failed made) call.status w.status_is in
     let low = done-low call.status done in
     record {
@@ -319,7 +287,7 @@ run-written law call report name workers made text named report_is run_is w =
       complete = λ can none. inl done;
       good = λ can good one.
           let same_name = run-name call.words can.name name can.named.0 workers can.named.1 named in
-          let none = run-good law call can workers made text (rw (sym same_name) at run_is) good in
+          let none = run-good read law call can workers made text (rw (sym same_name) at run_is) good in
           true≢false (sym ((one-where (has_failed made) call.status w.status_is).0 one) ∙ none);
       no_report = λ away _. absurd (away done);
       outside = keeps-done call done w.quiet (ran-calm name call.texts call.texts_after run_is.file run_is.texts run_is.ran);
@@ -349,11 +317,11 @@ run-cut call report name workers made text named report_is run_is w =
       outside = keeps-cut call five w.hears (ran-calm name call.texts call.texts_after run_is.file run_is.texts run_is.ran);
     }
 
-run-call : GoodJobsFinish → (call : Seen) (report : Option Report) (name : List ℕ) (workers : Option ℕ) → AsksFor call workers name → RunEnds name workers call.texts call.texts_after call.out call.out_after call.err call.err_after call.status report → RunsAsSaid call report
-run-call law call report name workers named ends =
+run-call : FilesThatAreReadAreLawful → GoodRunsFinish → (call : Seen) (report : Option Report) (name : List ℕ) (workers : Option ℕ) → AsksFor call workers name → RunEnds name workers call.texts call.texts_after call.out call.out_after call.err call.err_after call.status report → RunsAsSaid call report
+run-call read law call report name workers named ends =
     elim ends [
       | inl written ↦ elim written.writes [
-        | inl all ↦ run-written law call report name workers written.made written.text named written.report_is written.run_is all
+        | inl all ↦ run-written read law call report name workers written.made written.text named written.report_is written.run_is all
         | inr front ↦ run-cut call report name workers written.made written.text named written.report_is written.run_is front
       ]
       | inr refused ↦ run-refused call report name refused.refused.said (workers, named) (run-said name call.texts call.texts_after refused.refusal refused.refused.said refused.stops refused.refused.stands) refused.refused.status_is refused.refused.hears refused.untouched refused.no_report
@@ -380,9 +348,9 @@ usage-call call report unnamed refused same_texts same_out nothing =
 
 -- ---- the same, with what is seen of a call given one by one
 
-pub run-call-of : GoodJobsFinish → (words : List (List ℕ)) (texts texts_after : Source) (out out_after err err_after : Intake) (status : ℕ) (report : Option Report) (name : List ℕ) (workers : Option ℕ) → form words ≡ Some (run workers name) → RunEnds name workers texts texts_after out out_after err err_after status report → IsCall (seen words texts texts_after out out_after err err_after status) report
-run-call-of law words texts texts_after out out_after err err_after status report name workers named ends =
-    rw named (run-call law (seen words texts texts_after out out_after err err_after status) report name workers named ends)
+pub run-call-of : FilesThatAreReadAreLawful → GoodRunsFinish → (words : List (List ℕ)) (texts texts_after : Source) (out out_after err err_after : Intake) (status : ℕ) (report : Option Report) (name : List ℕ) (workers : Option ℕ) → form words ≡ Some (run workers name) → RunEnds name workers texts texts_after out out_after err err_after status report → IsCall (seen words texts texts_after out out_after err err_after status) report
+run-call-of read law words texts texts_after out out_after err err_after status report name workers named ends =
+    rw named (run-call read law (seen words texts texts_after out out_after err err_after status) report name workers named ends)
 
 pub check-is-call : (words : List (List ℕ)) (texts texts_after : Source) (out out_after err err_after : Intake) (status : ℕ) (report : Option Report) (name : List ℕ) → form words ≡ Some (check name) → CheckEnds name texts texts_after out out_after err err_after status → report ≡ None → IsCall (seen words texts texts_after out out_after err err_after status) report
 check-is-call words texts texts_after out out_after err err_after status report name named ends nothing =
@@ -392,20 +360,7 @@ pub usage-call-of : (words : List (List ℕ)) (texts out_texts : Source) (out ou
 usage-call-of words texts out_texts out out_after err err_after status report unnamed refused same_texts same_out nothing =
     rw unnamed (usage-call (seen words texts out_texts out out_after err err_after status) report unnamed refused same_texts same_out nothing)
 
--- ---- the items of a run
-
-items-front : (texts : Texts) (jobs : List Job) (k : ℕ) → items_of_all texts jobs ≡ items_of_all texts (take k jobs) ++ items_of_all texts (drop k jobs)
-items-front texts jobs k = ap (items_of_all texts) (sym (take-append-drop k jobs)) ∙ flat_map-append (λ (job : Job). items_of texts job.input) (take k jobs) (drop k jobs)
-
--- items that pass a limit pass it with others behind them
-passes-more : (items more : List (List ℕ)) → PassesLimit items → PassesLimit (items ++ more)
-passes-more items more passes =
-    let count = length-append items more in
-    let size = sum_by-append length items more in
-    elim passes [
-      | inl many ↦ inl (omega (arith, count))
-      | inr large ↦ inr (omega (arith, size))
-    ]
+-- ---- why there is no report
 
 -- a job file that was not read stops a run for the same cause
 pub run-file_stops : (name : List ℕ) (old new : Source) (fault : FileFault) → FileNotRead name old fault new → RunStops name old (file_refusal fault) new
@@ -423,6 +378,9 @@ run-stops name old between new file texts (ItemsTooLarge job items bytes) loads 
       file_loads = loads;
       runnable = ready;
       texts_load = texts_load;
-      passes = rw (items-front texts file.jobs (job + 1)) (passes-more (items_up_to texts file.jobs job) (items_of_all texts (drop (job + 1) file.jobs)) stops.passes);
+      place = job;
+      number = items;
+      bytes = bytes;
+      passes = stops;
     }))
 run-stops name old between new file texts RunMemory loads ready texts_load stops = calm-then old between new loads.loads.calm texts_load.calm

@@ -1,20 +1,20 @@
 -- What a call that runs a job file comes to. (Own.)
-use Rattle.std.specs.Prelude.{◌≡◌, ◌≢◌, ◌⊎◌, ◌↔◌, ◌≤◌, ℕ, List, [], length, map, All, Option, Some, None, unwrap_or, IsTrue, if◌then◌else◌}
+use Rattle.std.specs.Prelude.{◌≡◌, ◌≢◌, ◌⊎◌, ◌↔◌, ◌≤◌, ℕ, List, length, map, All, Option, Some, None, unwrap_or, IsTrue, if◌then◌else◌}
 use Rattle.qtc_base.specs.Items.{PassesLimit}
 use Rattle.qtc_outside.specs.Source.{Source, IsCalm}
 use Rattle.qtc_outside.specs.Intake.{Intake, Takes, IsCut}
 use Rattle.qtc_outside.specs.Loading.{FailsToLoad, IsTooLong}
 use Rattle.qtc_outside.specs.declared.loading.LoadFault.{LoadFault}
 use Rattle.qtc_outside.specs.declared.loading.LoadFault.TheVariants.{Read, TooLong}
-use Rattle.qtc_job_file.specs.declared.jobs.Job.{Job}
 use Rattle.qtc_job_file.specs.declared.jobs.JobFile.{JobFile}
 use Rattle.qtc_job.specs.Grammar.{Reads}
 use Rattle.qtc_base.specs.Limits.{most_job_file, most_text, most_texts}
 use Rattle.qtc_job.specs.Lines.{lines_of}
-use Rattle.qtc_kernel.specs.Workload.{bad_indexes}
-use Rattle.qtc_run.specs.Reports.{IsOutput, has_failed}
+use Rattle.qtc_run.specs.GoodRuns.{AreGood}
+use Rattle.qtc_run.specs.Outputs.{IsOutput, has_failed}
 use Rattle.qtc_run.specs.Runnable.{are_runnable}
-use Rattle.qtc_run.specs.Sources.{items_of_all, work_of}
+use Rattle.qtc_run.specs.Sources.{outcomes_of}
+use Rattle.qtc_run.specs.Sums.{Fits, PassesWith, items_of_run}
 use Rattle.qtc_job_file.specs.Texts.{Texts}
 use Rattle.qtc_run.specs.declared.reports.Report.{Report}
 use Rattle.qtc_cli.specs.Answered.{IsDone, KeepsOutside, IsBadJob, HasNoFaults}
@@ -37,21 +37,20 @@ RunsFile call name = (workers : Option ℕ) × AsksFor call workers name
 abbrev pub workers_of : Option ℕ → JobFile → ℕ
 workers_of words file = unwrap_or words file.workers
 
--- a job file that reads as this one, of jobs that are all run so far, and the texts that it names were loaded; their
--- items keep their limits
+-- a job file that reads as this one, of jobs that are all run so far, and the texts that it names were loaded
 pub record Ran (name : List ℕ) (old : Source) (file : JobFile) (texts : Texts) (new : Source) : Type 0 where
   pub between : Source
   pub file_loads : LoadsFile name old file between
   pub runnable : IsTrue (are_runnable file.jobs)
   pub texts_load : LoadsTexts (texts_named file) between texts new
-  pub fits : ¬ PassesLimit (items_of_all texts file.jobs)
 
 -- what was loaded under the name of a job file came to this report and this text, which are what a run by so many workers
--- may print
+-- may print; the items of its jobs keep their limits
 pub record IsRunOf (name : List ℕ) (workers : Option ℕ) (old : Source) (made : Report) (text : List ℕ) (new : Source) : Type 0 where
   pub file : JobFile
   pub texts : Texts
   pub ran : Ran name old file texts new
+  pub fits : ¬ PassesLimit (items_of_run texts file.jobs (outcomes_of made.jobs))
   pub output : IsOutput file (workers_of workers file) texts made text
 
 -- the words ask for a run, and this report of it and this text were formed
@@ -91,7 +90,7 @@ pub record IsTextRefused (fault : LoadFault) (name : List ℕ) (old new : Source
 abbrev pub IsReadFault : List ℕ → Source → Source → Type 0
 IsReadFault name old new = FailsToLoad most_job_file old name new ⊎ IsTextRefused Read name old new
 
--- the items of the jobs are more than those of a run may be
+-- with the job at this place the items of the jobs so far are more than those of a run may be
 pub record HasManyItems (name : List ℕ) (old new : Source) : Type 0 where
   pub file : JobFile
   pub texts : Texts
@@ -99,7 +98,10 @@ pub record HasManyItems (name : List ℕ) (old new : Source) : Type 0 where
   pub file_loads : LoadsFile name old file between
   pub runnable : IsTrue (are_runnable file.jobs)
   pub texts_load : LoadsTexts (texts_named file) between texts new
-  pub passes : PassesLimit (items_of_all texts file.jobs)
+  pub place : ℕ
+  pub number : ℕ
+  pub bytes : ℕ
+  pub passes : PassesWith texts file.jobs place number bytes
 
 -- the job file is too long, or a text by itself or with those before it, or the items are too many
 abbrev pub IsTooLarge : List ℕ → Source → Source → Type 0
@@ -127,11 +129,7 @@ pub record CanRun (call : Seen) : Type 0 where
   pub told : All (λ t. call.texts.held t.0 ≡ Some t.1) texts
   pub each : All (λ t. length t.1 ≤ most_text) texts
   pub few : bytes_of texts ≤ most_texts
-  pub fits : ¬ PassesLimit (items_of_all texts file.jobs)
-
--- no item of these jobs is bad
-abbrev pub AreGood : Texts → List Job → Type 0
-AreGood texts jobs = All (λ (job : Job). bad_indexes (work_of texts job) ≡ []) jobs
+  pub fits : Fits texts file.jobs
 
 -- what a call of the form run, or of none, comes to
 pub record RunsAsSaid (call : Seen) (report : Option Report) : Type 0 where

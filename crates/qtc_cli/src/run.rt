@@ -1,5 +1,5 @@
 ghost use Rattle.std.specs.Prelude.{◌≡◌, ◌≤◌, None, map, string_bytes, IfOk, IfErr, IfSome};
-ghost use Rattle.qtc_run.specs.Sums.{IsCountable};
+ghost use Rattle.qtc_job_file.specs.Lawful.{Lawful};
 ghost use Rattle.qtc_cli.specs.Endings.{IsRefused};
 ghost use Rattle.qtc_cli.specs.Forms.{IsWorkerCount};
 ghost use Rattle.qtc_cli.specs.Run.{IsRunOf, RunStops, RunEnds, IsCall, workers_of};
@@ -10,10 +10,11 @@ use crate::command_forms::{Task, command_of};
 use crate::endings::{refuse, write_text};
 use crate::refusals::Refusal;
 use qtc_base::Bytes;
+use qtc_job::files_that_are_read_are_lawful;
 use qtc_job_file::JobFile;
 use qtc_load::{load_file, load_texts};
 use qtc_outside::{Gate, Sink, Texts};
-use qtc_run::{Report, good_jobs_finish, is_runnable, report_text, run_file};
+use qtc_run::{Report, good_runs_finish, is_runnable, report_text, run_file};
 use std::alloc::Global;
 use std::sync::Wait;
 use std::thread::Threads;
@@ -38,7 +39,7 @@ struct Formed {
 /// How many workers run a file: as many as the words say, else as many as the file says.
 fn workers_of(words: Option<u32>, file: &JobFile) -> u32
     requires words { IfSome words IsWorkerCount }
-    requires file { IsCountable file.now }
+    requires file { Lawful file.now }
     ensures is { result ≡ workers_of words file.now }
     ensures few { IsWorkerCount result }
 {
@@ -139,8 +140,9 @@ pub fn run_words<T: Texts, S: Sink, E: Sink, G: Gate, R: Threads + Wait + Sync>(
             report: None,
         },
         Task::Run(workers) => {
-            // The proof has from this law that no job over good items fails.
-            good_jobs_finish();
+            // The proof has from these laws that no job of a file that was read fails where nothing stops its run.
+            files_that_are_read_are_lawful();
+            good_runs_finish();
             run_named(rt, alloc, command.job, workers, texts, out, err, gate)
         }
     }

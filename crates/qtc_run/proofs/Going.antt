@@ -11,7 +11,7 @@ use Rattle.qtc_events.specs.declared.calls.Call.TheVariants.{Start, Report, Acco
 use Rattle.qtc_events.specs.declared.entries.Entry.{Entry}
 use Rattle.qtc_events.specs.declared.entries.Reached.{Reached}
 use Rattle.qtc_events.specs.declared.entries.Reached.TheVariants.{Nothing, Suspend as ReachedSuspend, Cancel as ReachedCancel}
-use Rattle.qtc_run.specs.Reports.{LetsGoOn, cancels, cancels_by_threshold}
+use Rattle.qtc_run.specs.Journals.{LetsGoOn, cancels, cancels_by_threshold}
 
 -- once Canceled stands it stays
 call-stays : (s : Standing) (call : Call) → s.canceled ≡ true → (after_call s call).canceled ≡ true

@@ -1,11 +1,15 @@
-pub mod Countable
+pub mod BlockLemmas
+pub mod Ended
 pub mod Going
+pub mod GoodLemmas
 pub mod LineCounts
 pub mod PieceLemmas
+pub mod Plain
 pub mod Planned
 pub mod ReportLemmas
 pub mod Rows
 pub mod Seating
 pub mod SequentialLemmas
 pub mod SumLemmas
+pub mod TextRuns
 pub mod Worked

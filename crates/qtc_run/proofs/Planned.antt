@@ -15,7 +15,7 @@ use Rattle.qtc_shared.specs.Passes.{PassState}
 use Rattle.qtc_run.specs.Pairing.{EachPair}
 use Rattle.qtc_run.specs.Reports.{is_keep}
 use Rattle.qtc_run.specs.Rounds.{AreFree, IsEngineFor, IsFree, IsReady, each_times}
-use Rattle.qtc_run.specs.declared.rounds.Source.{Source}
+use Rattle.qtc_run.specs.declared.rounds.RoundJob.{RoundJob}
 use Rattle.qtc_run.proofs.Rows.{all-imply, pairs-append, pairs-row}
 use Rattle.qtc_run.proofs.Seating.{rows-push}
 use Rattle.qtc_run.proofs.Worked.{value-suits}
@@ -26,7 +26,7 @@ module _ {F : Type 0} (value : F → List ℕ → ItemValue) (called : F → Lis
   by-first [] does some all = absurd (omega arith)
   by-first (function ∷ functions) does some all = all 0 function (omega arith)
 
-  pub planned : (workers : ℕ) (source : Source) (kind : Kind) (sizes : List ℕ) (functions : List F) → IsReady source → (1 ≤ workers) × (workers ≤ 32) → is_filter kind ≡ is_keep source.job.now.op → sizes ≡ source.job.now.blocks → length functions ≡ workers
+  pub planned : (workers : ℕ) (source : RoundJob) (kind : Kind) (sizes : List ℕ) (functions : List F) → IsReady source → (1 ≤ workers) × (workers ≤ 32) → is_filter kind ≡ is_keep source.job.now.op → sizes ≡ source.job.now.blocks → length functions ≡ workers
       → All (λ function. value function ≡ value_of source.job.now.op) functions → All (λ function. called function ≡ []) functions → IsPlanned value called kind source.items workers sizes functions
   planned workers source kind sizes functions ready few kind_is sizes_are count does fresh =
       let some : 1 ≤ length functions = omega (arith, few.0, count) in
@@ -40,7 +40,7 @@ module _ {F : Type 0} (value : F → List ℕ → ItemValue) (called : F → Lis
         suits = value-suits source.job.now.op kind source.items (value_by value functions) kind_is first;
       }
 
-  pub engine-for : (workers : ℕ) (source : Source) (kind : Kind) (cancel_after suspend_after : ℕ) (sizes : List ℕ) (functions : List F) (parts : EngineParts F) (desks : List (DeskState F)) (pass : PassState (List ℕ)) → 1 ≤ workers → is_filter kind ≡ is_keep source.job.now.op → sizes ≡ source.job.now.blocks
+  pub engine-for : (workers : ℕ) (source : RoundJob) (kind : Kind) (cancel_after suspend_after : ℕ) (sizes : List ℕ) (functions : List F) (parts : EngineParts F) (desks : List (DeskState F)) (pass : PassState (List ℕ)) → 1 ≤ workers → is_filter kind ≡ is_keep source.job.now.op → sizes ≡ source.job.now.blocks
       → cancel_after ≡ source.job.now.cancel_after → suspend_after ≡ source.job.now.suspend_after → length functions ≡ workers → All (λ function. value function ≡ value_of source.job.now.op) functions
       → IsEngineOf value called source.items (plan_terms kind cancel_after suspend_after workers) sizes functions parts desks pass → IsEngineFor value workers source parts
   engine-for workers source kind cancel_after suspend_after sizes functions parts desks pass one kind_is sizes_are cancel_is suspend_is count does made =
@@ -71,7 +71,7 @@ module _ {F : Type 0} (value : F → List ℕ → ItemValue) (called : F → Lis
       subst (λ row. EachPair (IsFree value called) row (desks ++ theirs)) (sym (rows-push workers all_parts parts)) (pairs-append (IsFree value called) (each_times workers all_parts) (replicate workers parts) desks theirs all row)
 
   -- each engine has so many workers
-  pub all-have : (workers : ℕ) (sources : List Source) (all_parts : List (EngineParts F)) → EachPair (IsEngineFor value workers) sources all_parts → All (λ parts. parts.counter.workers ≡ workers) all_parts
+  pub all-have : (workers : ℕ) (sources : List RoundJob) (all_parts : List (EngineParts F)) → EachPair (IsEngineFor value workers) sources all_parts → All (λ parts. parts.counter.workers ≡ workers) all_parts
   all-have workers [] [] all = All-nil (λ parts. parts.counter.workers ≡ workers)
   all-have workers [] (parts ∷ all_parts) all = absurd all
   all-have workers (source ∷ sources) [] all = absurd all

@@ -1,17 +1,19 @@
 -- The texts of reports, job by job.
-use Rattle.std.proofs.Common.{◌≡◌, ◌<◌, ◌+◌, ℕ, zero, suc, get_or, take, List, [], ◌∷◌, ◌++◌, length, ◌⊎◌, ⊎_elim, refl, ap, sym, subst, ◌∙◌, append_assoc, append-nil, arith}
+use Rattle.std.proofs.Common.{◌≡◌, ◌<◌, ◌+◌, ℕ, zero, suc, true, get_or, take, List, [], ◌∷◌, ◌++◌, length, Option, None, ◌⊎◌, ⊎_elim, refl, ap, sym, subst, ◌∙◌, append_assoc, append-nil, arith}
 use Rattle.std.specs.List.{flat_map, zip}
+use Rattle.std.proofs.lemmas.Bool.{and_parts}
 use Rattle.qtc_job_file.specs.declared.jobs.Job.{Job}
-use Rattle.qtc_kernel.specs.Workload.{workload}
-use Rattle.qtc_ops.specs.Operations.{value_of}
 use Rattle.qtc_run.specs.declared.reports.JobReport.{JobReport}
 use Rattle.qtc_run.specs.Laws.{JobsAreReportedInOrder}
+use Rattle.qtc_run.specs.Outputs.{AreReports, IsReportIn}
 use Rattle.qtc_run.specs.Pairing.{EachPair}
-use Rattle.qtc_run.specs.Reports.{AreReports, IsReport}
+use Rattle.qtc_run.specs.Reports.{IsReport}
 use Rattle.qtc_run.specs.ReportTexts.{job_text}
 use Rattle.qtc_run.specs.Rounds.{IsReportFor, IsSourceOf}
-use Rattle.qtc_run.specs.Sources.{Texts, items_of, work_of}
-use Rattle.qtc_run.specs.declared.rounds.Source.{Source}
+use Rattle.qtc_run.specs.Runnable.{are_runnable, is_runnable}
+use Rattle.qtc_run.specs.Sources.{Source, Texts, choice_of, given, items_of, outcomes_of, source_of}
+use Rattle.qtc_run.specs.declared.rounds.RoundJob.{RoundJob}
+use Rattle.qtc_run.proofs.Plain.{no-choice, runnable-plain, source-given}
 
 abbrev pub pair_text : Job × JobReport → List ℕ
 pair_text pair = job_text pair.0.name pair.1
@@ -67,22 +69,30 @@ pairs-next R xs ys zs place x y within is more all last =
 
 pub stand-by-place : JobsAreReportedInOrder
 stand-by-place texts jobs reports all = record {
-  number = pairs-number (λ job report. IsReport job (work_of texts job) report) jobs reports all;
-  each = λ place d e within. pairs-at (λ job report. IsReport job (work_of texts job) report) jobs reports place d e all within;
+  number = pairs-number (IsReportIn texts jobs reports) jobs reports all;
+  each = λ place d e within. pairs-at (IsReportIn texts jobs reports) jobs reports place d e all within;
 }
 
 -- ---- jobs, what they read, and what is reported of them
 
-report-of : (texts : Texts) (job : Job) (source : Source) (report : JobReport) → IsSourceOf texts job source → IsReportFor source report → IsReport job (work_of texts job) report
-report-of texts job source report is reported =
-    let items = subst (λ (items : List (List ℕ)). IsReport source.job.now (workload items (value_of source.job.now.op)) report) is.items_are reported in
-    subst (λ (job' : Job). IsReport job' (workload (items_of texts job.input) (value_of job'.op)) report) is.job_is items
+-- a job of texts, of a file with these jobs and reports
+report-in : (texts : Texts) (jobs : List Job) (reports : List JobReport) (job : Job) (source : RoundJob) (report : JobReport) → is_runnable job ≡ true → IsSourceOf texts job source → IsReportFor source report → IsReportIn texts jobs reports job report
+report-in texts jobs reports job source report ready is reported =
+    let plain = runnable-plain job ready in
+    let of_job = subst (λ (job : Job). IsReport job (given source.items) None report) is.job_is reported in
+    let of_items = subst (λ (items : List (List ℕ)). IsReport job (given items) None report) is.items_are of_job in
+    let of_choice = subst (λ (choice : Option ℕ). IsReport job (given (items_of texts job.input)) choice report) (sym (no-choice jobs job.input plain.reads)) of_items in
+    subst (λ (source : Source). IsReport job source (choice_of jobs job.input) report) (sym (source-given texts jobs (outcomes_of reports) job.input plain.reads)) of_choice
 
-pub reports-of : (texts : Texts) (jobs : List Job) (sources : List Source) (reports : List JobReport) → EachPair (IsSourceOf texts) jobs sources → EachPair IsReportFor sources reports → AreReports texts jobs reports
-reports-of texts [] [] [] are reported = tt
-reports-of texts [] [] (report ∷ reports) are reported = reported
-reports-of texts [] (source ∷ sources) reports are reported = absurd are
-reports-of texts (job ∷ jobs) [] reports are reported = absurd are
-reports-of texts (job ∷ jobs) (source ∷ sources) [] are reported = absurd reported
-reports-of texts (job ∷ jobs) (source ∷ sources) (report ∷ reports) are reported =
-    (report-of texts job source report are.0 reported.0, reports-of texts jobs sources reports are.1 reported.1)
+each-in : (texts : Texts) (jobs : List Job) (reports : List JobReport) (some : List Job) (sources : List RoundJob) (theirs : List JobReport) → are_runnable some ≡ true → EachPair (IsSourceOf texts) some sources → EachPair IsReportFor sources theirs → EachPair (IsReportIn texts jobs reports) some theirs
+each-in texts jobs reports [] [] [] ready are reported = tt
+each-in texts jobs reports [] [] (report ∷ theirs) ready are reported = reported
+each-in texts jobs reports [] (source ∷ sources) theirs ready are reported = absurd are
+each-in texts jobs reports (job ∷ some) [] theirs ready are reported = absurd are
+each-in texts jobs reports (job ∷ some) (source ∷ sources) [] ready are reported = absurd reported
+each-in texts jobs reports (job ∷ some) (source ∷ sources) (report ∷ theirs) ready are reported =
+    let parts = and_parts _ _ ready in
+    (report-in texts jobs reports job source report parts.0 are.0 reported.0, each-in texts jobs reports some sources theirs parts.1 are.1 reported.1)
+
+pub reports-of : (texts : Texts) (jobs : List Job) (sources : List RoundJob) (reports : List JobReport) → are_runnable jobs ≡ true → EachPair (IsSourceOf texts) jobs sources → EachPair IsReportFor sources reports → AreReports texts jobs reports
+reports-of texts jobs sources reports ready are reported = each-in texts jobs reports jobs sources reports ready are reported

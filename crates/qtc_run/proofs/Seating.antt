@@ -66,27 +66,27 @@ row-set n at a b old new row within is here makes =
 
 -- ---- a worker leaves its first place
 
-pub leave-more : {X : Type 0} (n at : ℕ) (crowd : List (List X)) (old new : List X) (place : X) (before places more : List X) → at < n → old ≡ get_or crowd at old → old ≡ place ∷ new → more ≡ places ++ place ∷ [] → (one : X) (rest : List X) → places ≡ before ++ replicate at one → crowd ≡ replicate at rest ++ replicate (n - at) (one ∷ rest) → (more ≡ before ++ replicate (at + 1) one) × (set crowd at new ≡ replicate (at + 1) rest ++ replicate (n - (at + 1)) (one ∷ rest))
-leave-more n at crowd old new place before places more within here is push one rest so_far row =
+pub leave-more : {X : Type 0} (n at : ℕ) (workers : List (List X)) (old new : List X) (place : X) (before places more : List X) → at < n → old ≡ get_or workers at old → old ≡ place ∷ new → more ≡ places ++ place ∷ [] → (one : X) (rest : List X) → places ≡ before ++ replicate at one → workers ≡ replicate at rest ++ replicate (n - at) (one ∷ rest) → (more ≡ before ++ replicate (at + 1) one) × (set workers at new ≡ replicate (at + 1) rest ++ replicate (n - (at + 1)) (one ∷ rest))
+leave-more n at workers old new place before places more within here is push one rest so_far row =
     let first : old ≡ one ∷ rest → place ≡ one = λ e. head-same place one new rest (sym is ∙ e) in
     let left : old ≡ one ∷ rest → new ≡ rest = λ e. tail-same place one new rest (sym is ∙ e) in
-    let old_is : old ≡ one ∷ rest = at-row n at rest (one ∷ rest) old crowd within row here in
+    let old_is : old ≡ one ∷ rest = at-row n at rest (one ∷ rest) old workers within row here in
     let whole : more ≡ (before ++ replicate at one) ++ one ∷ [] = push ∙ (ap (λ places. places ++ place ∷ []) so_far ∙ ap (λ place. (before ++ replicate at one) ++ place ∷ []) (first old_is)) in (
       whole ∙ (append_assoc before (replicate at one) (one ∷ []) ∙ ap (λ row. before ++ row) (sym (row-push at one))),
-      row-set n at rest (one ∷ rest) old new crowd within row here left,
+      row-set n at rest (one ∷ rest) old new workers within row here left,
     )
 
-pub leave-none : {X : Type 0} (n at : ℕ) (crowd : List (List X)) (old : List X) → at < n → old ≡ get_or crowd at old → old ≡ [] → (one : X) (rest : List X) → crowd ≡ replicate at rest ++ replicate (n - at) (one ∷ rest) → ⊥
-leave-none n at crowd old within here is one rest row =
-    let old_is : one ∷ rest ≡ [] = sym (at-row n at rest (one ∷ rest) old crowd within row here) ∙ is in cc
+pub leave-none : {X : Type 0} (n at : ℕ) (workers : List (List X)) (old : List X) → at < n → old ≡ get_or workers at old → old ≡ [] → (one : X) (rest : List X) → workers ≡ replicate at rest ++ replicate (n - at) (one ∷ rest) → ⊥
+leave-none n at workers old within here is one rest row =
+    let old_is : one ∷ rest ≡ [] = sym (at-row n at rest (one ∷ rest) old workers within row here) ∙ is in cc
 
 -- ---- a worker gets the next place
 
-pub deal-more : {X : Type 0} (n at : ℕ) (crowd : List (List X)) (old new : List X) (place : X) (places left : List X) → at < n → old ≡ get_or crowd at old → new ≡ old ++ place ∷ [] → places ≡ place ∷ left → (one : X) (done rest : List X) → places ≡ replicate (n - at) one ++ rest → crowd ≡ replicate at (done ++ one ∷ []) ++ replicate (n - at) done → (left ≡ replicate (n - (at + 1)) one ++ rest) × (set crowd at new ≡ replicate (at + 1) (done ++ one ∷ []) ++ replicate (n - (at + 1)) done)
-deal-more n at crowd old new place places left within here push next one done rest is row =
+pub deal-more : {X : Type 0} (n at : ℕ) (workers : List (List X)) (old new : List X) (place : X) (places left : List X) → at < n → old ≡ get_or workers at old → new ≡ old ++ place ∷ [] → places ≡ place ∷ left → (one : X) (done rest : List X) → places ≡ replicate (n - at) one ++ rest → workers ≡ replicate at (done ++ one ∷ []) ++ replicate (n - at) done → (left ≡ replicate (n - (at + 1)) one ++ rest) × (set workers at new ≡ replicate (at + 1) (done ++ one ∷ []) ++ replicate (n - (at + 1)) done)
+deal-more n at workers old new place places left within here push next one done rest is row =
     let both = row-next n at one place rest places left within next is in
     let makes : old ≡ done → new ≡ done ++ one ∷ [] = λ e. push ∙ (ap (λ old. old ++ place ∷ []) e ∙ ap (λ place. done ++ place ∷ []) both.0) in
-    (both.1, row-set n at (done ++ one ∷ []) done old new crowd within row here makes)
+    (both.1, row-set n at (done ++ one ∷ []) done old new workers within row here makes)
 
 -- ---- rows
 
@@ -105,28 +105,28 @@ rows-push n (y ∷ xs) x =
     ap (λ row. replicate n y ++ row) (rows-push n xs x) ∙ sym (append_assoc (replicate n y) (each_times n xs) (replicate n x))
 
 -- a row is dealt
-pub row-dealt : {X : Type 0} (n at : ℕ) (all places left : List X) (crowd after : List (List X)) → length crowd ≡ n → at < length all
-    → ((one : X) (done rest : List X) → places ≡ replicate (length crowd) one ++ rest → crowd ≡ replicate (length crowd) done → (left ≡ rest) × (after ≡ replicate (length crowd) (done ++ one ∷ [])))
-    → places ≡ each_times n (drop at all) → crowd ≡ replicate n (take at all)
+pub row-dealt : {X : Type 0} (n at : ℕ) (all places left : List X) (workers after : List (List X)) → length workers ≡ n → at < length all
+    → ((one : X) (done rest : List X) → places ≡ replicate (length workers) one ++ rest → workers ≡ replicate (length workers) done → (left ≡ rest) × (after ≡ replicate (length workers) (done ++ one ∷ [])))
+    → places ≡ each_times n (drop at all) → workers ≡ replicate n (take at all)
     → (left ≡ each_times n (drop (at + 1) all)) × (after ≡ replicate n (take (at + 1) all))
-row-dealt {X = X} n at all places left crowd after count within deals is row =
+row-dealt {X = X} n at all places left workers after count within deals is row =
     let next = drop-row all at within in
     let rest : List X = each_times n (drop (at + 1) all) in
-    let first : places ≡ replicate (length crowd) next.0 ++ rest = is ∙ (ap (each_times n) next.1 ∙ ap (λ k. replicate k next.0 ++ rest) (sym count)) in
-    let before : crowd ≡ replicate (length crowd) (take at all) = row ∙ ap (λ k. replicate k (take at all)) (sym count) in
+    let first : places ≡ replicate (length workers) next.0 ++ rest = is ∙ (ap (each_times n) next.1 ∙ ap (λ k. replicate k next.0 ++ rest) (sym count)) in
+    let before : workers ≡ replicate (length workers) (take at all) = row ∙ ap (λ k. replicate k (take at all)) (sym count) in
     let done = deals next.0 (take at all) rest first before in
     (done.0, done.1 ∙ (ap (λ k. replicate k (take at all ++ next.0 ∷ [])) count ∙ ap (replicate n) (sym next.2)))
 
 -- a row is gathered
-pub row-gathered : {X : Type 0} (n at : ℕ) (all places more : List X) (crowd after : List (List X)) → length crowd ≡ n → at < length all
-    → ((one : X) (rest : List X) → crowd ≡ replicate (length crowd) (one ∷ rest) → (more ≡ places ++ replicate (length crowd) one) × (after ≡ replicate (length crowd) rest))
-    → places ≡ each_times n (take at all) → crowd ≡ replicate n (drop at all)
+pub row-gathered : {X : Type 0} (n at : ℕ) (all places more : List X) (workers after : List (List X)) → length workers ≡ n → at < length all
+    → ((one : X) (rest : List X) → workers ≡ replicate (length workers) (one ∷ rest) → (more ≡ places ++ replicate (length workers) one) × (after ≡ replicate (length workers) rest))
+    → places ≡ each_times n (take at all) → workers ≡ replicate n (drop at all)
     → (more ≡ each_times n (take (at + 1) all)) × (after ≡ replicate n (drop (at + 1) all))
-row-gathered n at all places more crowd after count within gathers is row =
+row-gathered n at all places more workers after count within gathers is row =
     let next = drop-row all at within in
-    let before : crowd ≡ replicate (length crowd) (next.0 ∷ drop (at + 1) all) = row ∙ (ap (replicate n) next.1 ∙ ap (λ k. replicate k (next.0 ∷ drop (at + 1) all)) (sym count)) in
+    let before : workers ≡ replicate (length workers) (next.0 ∷ drop (at + 1) all) = row ∙ (ap (replicate n) next.1 ∙ ap (λ k. replicate k (next.0 ∷ drop (at + 1) all)) (sym count)) in
     let done = gathers next.0 (drop (at + 1) all) before in (
-      done.0 ∙ (ap (λ places. places ++ replicate (length crowd) next.0) is
+      done.0 ∙ (ap (λ places. places ++ replicate (length workers) next.0) is
           ∙ (ap (λ k. each_times n (take at all) ++ replicate k next.0) count
           ∙ (sym (rows-push n (take at all) next.0) ∙ ap (each_times n) (sym next.2)))),
       done.1 ∙ ap (λ k. replicate k (drop (at + 1) all)) count,
@@ -154,9 +154,9 @@ slice-stays len old new long same =
     ap (λ new. take len (new ++ drop (length new) old)) same ∙ (ap (λ k. take k (old ++ drop (length old) old)) long ∙ (ap (λ rest. take (length old) (old ++ rest)) (drop-length old) ∙ (ap (take (length old)) (append-nil old) ∙ take-length old)))
 
 -- what the workers give back is what they were dealt
-pub as-dealt : {X : Type 0} (n : ℕ) (all places left : List X) (crowd after : List (List X)) → after ≡ crowd → length crowd ≡ n → crowd ≡ replicate n all → places ≡ each_times n all
+pub as-dealt : {X : Type 0} (n : ℕ) (all places left : List X) (workers after : List (List X)) → after ≡ workers → length workers ≡ n → workers ≡ replicate n all → places ≡ each_times n all
     → (after ≡ replicate (length after) all → left ≡ each_times (length after) all) → left ≡ places
-as-dealt n all places left crowd after same count dealt whole gathers =
+as-dealt n all places left workers after same count dealt whole gathers =
     let long : length after ≡ n = ap length same ∙ count in
     let is : after ≡ replicate (length after) all = same ∙ (dealt ∙ ap (λ k. replicate k all) (sym long)) in
     gathers is ∙ (ap (λ k. each_times k all) long ∙ sym whole)

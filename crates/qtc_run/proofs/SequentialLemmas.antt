@@ -1,16 +1,20 @@
 -- The sequential answer, item by item.
-use Rattle.std.proofs.Common.{◌≡◌, ◌≢◌, ℕ, zero, suc, ◌+◌, ◌<◌, Bool, true, false, cond, eqb, ltb, List, [], ◌∷◌, ◌++◌, length, get_or, Option, Some, None, refl, ap, sym, ◌∙◌, ⊎_elim, arith}
+use Rattle.std.proofs.Common.{◌≡◌, ℕ, zero, suc, ◌+◌, ◌<◌, Bool, true, false, cond, eqb, ltb, List, [], ◌∷◌, ◌++◌, length, get_or, Option, Some, None, refl, ap, sym, subst, ◌∙◌, ⊎_elim, arith}
+use Rattle.std.specs.Prelude.{Contains}
 use Rattle.std.specs.List.{enumerate_from, filter_map, range_with_len}
 use Rattle.std.proofs.lemmas.Bool.{cases_Bool}
 use Rattle.std.proofs.lemmas.Bool.Decides.{nat_tests}
 use Rattle.std.proofs.lemmas.List.Elements.{All-from_get_or}
 use Rattle.std.proofs.lemmas.List.Sums.{sum_by-append}
-use Rattle.qtc_ops.specs.ItemValue.{ItemValue, kept, dropped, bad}
+use Rattle.qtc_ops.specs.ItemValue.{ItemValue}
 use Rattle.qtc_ops.specs.Kept.{fails_at}
 use Rattle.qtc_kernel.specs.Driving.{called_by}
 use Rattle.qtc_kernel.specs.Runs.{times_called}
-use Rattle.qtc_kernel.specs.Workload.{Workload, bad_indexes, item_at, size_of, worked_on}
-use Rattle.qtc_run.specs.Laws.{EndsAs}
+use Rattle.qtc_kernel.specs.Workload.{Workload, bad_indexes, worked_on}
+use Rattle.qtc_job_file.specs.declared.jobs.Job.{Job}
+use Rattle.qtc_ops.specs.Operations.{value_of}
+use Rattle.qtc_run.specs.Failing.{failing_indexes, fails_in, is_refused}
+use Rattle.qtc_run.specs.Laws.{EndsAs, JobsFailAtTheFirst}
 use Rattle.qtc_run.specs.Sequential.{ended_with, sequential}
 
 -- ---- the calls
@@ -44,66 +48,47 @@ range-once (suc count) index =
 pub calls-once : (work : Workload) (index : ℕ) → times_called (called_by work) index ≡ cond (ltb index (worked_on work (bad_indexes work))) 1 0
 calls-once work index = range-once (worked_on work (bad_indexes work)) index
 
--- ---- the bad items
+-- ---- the items that fail
 
-abbrev no_text : List ℕ → Bool
-no_text text = false
+abbrev failing_index : (List ℕ → Bool) → (List ℕ → ItemValue) → ℕ × List ℕ → Option ℕ
+failing_index refuses value item = cond (fails_at refuses (value item.1)) (Some item.0) None
 
-abbrev bad_index : (List ℕ → ItemValue) → ℕ × List ℕ → Option ℕ
-bad_index value item = cond (fails_at no_text (value item.1)) (Some item.0) None
+-- what a list of failing indexes says of the items from here on
+abbrev FailsSay : (List ℕ → Bool) → (List ℕ → ItemValue) → ℕ → List (List ℕ) → List ℕ → Type 0
+FailsSay refuses value first items [] =
+    (place : ℕ) → place < length items → fails_at refuses (value (get_or items place [])) ≡ false
+FailsSay refuses value first items (index ∷ others) =
+    (place : ℕ) × (index ≡ first + place) × (place < length items) × (fails_at refuses (value (get_or items place [])) ≡ true)
+    × ((earlier : ℕ) → earlier < place → fails_at refuses (value (get_or items earlier [])) ≡ false)
 
-fails-bad : (v : ItemValue) → fails_at no_text v ≡ true → v ≡ bad
-fails-bad (kept text) e = cc
-fails-bad dropped e = cc
-fails-bad bad e = refl
+-- no item before this one fails, as none of those after it before a place
+none-before : (refuses : List ℕ → Bool) (value : List ℕ → ItemValue) (item : List ℕ) (items : List (List ℕ)) (count : ℕ) → fails_at refuses (value item) ≡ false → ((place : ℕ) → place < count → fails_at refuses (value (get_or items place [])) ≡ false) → (place : ℕ) → place < suc count → fails_at refuses (value (get_or (item ∷ items) place [])) ≡ false
+none-before refuses value item items count here later zero lt = here
+none-before refuses value item items count here later (suc place) lt = later place (omega arith)
 
-bad-fails : (v : ItemValue) → v ≡ bad → fails_at no_text v ≡ true
-bad-fails v e = ap (fails_at no_text) e
+say-next : (refuses : List ℕ → Bool) (value : List ℕ → ItemValue) (first : ℕ) (item : List ℕ) (items : List (List ℕ)) (indexes : List ℕ) → fails_at refuses (value item) ≡ false → FailsSay refuses value (first + 1) items indexes → FailsSay refuses value first (item ∷ items) indexes
+say-next refuses value first item items [] here says = none-before refuses value item items (length items) here says
+say-next refuses value first item items (index ∷ others) here says =
+    (suc says.0, omega (arith, says.1), omega (arith, says.2), says.3, none-before refuses value item items says.0 here says.4)
 
--- what a list of bad indexes says of the items from here on
-abbrev BadSays : (List ℕ → ItemValue) → ℕ → List (List ℕ) → List ℕ → Type 0
-BadSays value first items [] = (place : ℕ) → place < length items → value (get_or items place []) ≢ bad
-BadSays value first items (index ∷ others) =
-    (place : ℕ) × (index ≡ first + place) × (place < length items) × (value (get_or items place []) ≡ bad)
-    × ((earlier : ℕ) → earlier < place → value (get_or items earlier []) ≢ bad)
-
--- no item before this one is bad, as none of those after it before a place
-none-before : (value : List ℕ → ItemValue) (item : List ℕ) (items : List (List ℕ)) (count : ℕ) → value item ≢ bad → ((place : ℕ) → place < count → value (get_or items place []) ≢ bad) → (place : ℕ) → place < suc count → value (get_or (item ∷ items) place []) ≢ bad
-none-before value item items count here later zero lt = here
-none-before value item items count here later (suc place) lt = later place (omega arith)
-
-says-next : (value : List ℕ → ItemValue) (first : ℕ) (item : List ℕ) (items : List (List ℕ)) (bads : List ℕ) → value item ≢ bad → BadSays value (first + 1) items bads → BadSays value first (item ∷ items) bads
-says-next value first item items [] here says = none-before value item items (length items) here says
-says-next value first item items (index ∷ others) here says =
-    (suc says.0, omega (arith, says.1), omega (arith, says.2), says.3, none-before value item items says.0 here says.4)
-
-bad-says : (value : List ℕ → ItemValue) (first : ℕ) (items : List (List ℕ)) → BadSays value first items (filter_map (bad_index value) (enumerate_from first items))
-bad-says value first [] = λ place lt. absurd (omega arith)
-bad-says value first (item ∷ items) =
+fails-say : (refuses : List ℕ → Bool) (value : List ℕ → ItemValue) (first : ℕ) (items : List (List ℕ)) → FailsSay refuses value first items (filter_map (failing_index refuses value) (enumerate_from first items))
+fails-say refuses value first [] = λ place lt. absurd (omega arith)
+fails-say refuses value first (item ∷ items) =
     ⊎_elim
-    (λ (fails : fails_at no_text (value item) ≡ true).
-    rw fails (0, omega arith, omega arith, fails-bad (value item) fails, λ earlier lt. absurd (omega arith)))
-    (λ (calm : fails_at no_text (value item) ≡ false).
-    rw calm (says-next value first item items (filter_map (bad_index value) (enumerate_from (first + 1) items))
-    (λ is. let fails = bad-fails (value item) is in let both : true ≡ false = sym fails ∙ calm in cc)
-    (bad-says value (first + 1) items)))
-    (cases_Bool (fails_at no_text (value item)))
+    (λ (fails : fails_at refuses (value item) ≡ true).
+    rw fails (0, omega arith, omega arith, fails, λ earlier lt. absurd (omega arith)))
+    (λ (calm : fails_at refuses (value item) ≡ false).
+    rw calm (say-next refuses value first item items (filter_map (failing_index refuses value) (enumerate_from (first + 1) items)) calm
+    (fails-say refuses value (first + 1) items)))
+    (cases_Bool (fails_at refuses (value item)))
 
-says-ends : (work : Workload) (bads : List ℕ) → BadSays work.value 0 work.items bads → EndsAs work (ended_with work bads)
-says-ends work [] says = (refl, All-from_get_or (λ item. work.value item ≢ bad) work.items [] says)
-says-ends work (index ∷ others) says =
+says-ends : (job : Job) (items : List (List ℕ)) (indexes : List ℕ) → failing_indexes job items ≡ indexes → FailsSay (is_refused job.fold) (value_of job.op) 0 items indexes → EndsAs job items (ended_with job items indexes)
+says-ends job items [] is says = (refl, All-from_get_or (λ item. fails_in job item ≡ false) items [] says)
+says-ends job items (index ∷ others) is says =
     let same : index ≡ says.0 = omega (arith, says.1) in (
-      record { within = omega (arith, says.2); bad_value = ap (λ n. work.value (get_or work.items n [])) same ∙ says.3; item_is = refl },
+      record { among = subst (λ (indexes : List ℕ). Contains indexes index) (sym is) (0, omega arith, refl); item_is = refl },
       λ earlier lt. says.4 earlier (omega arith),
     )
 
-pub job-ends : (work : Workload) → EndsAs work (sequential work)
-job-ends work = says-ends work (bad_indexes work) (bad-says work.value 0 work.items)
-
--- where no index is bad, no item is
-says-good : (work : Workload) (bads : List ℕ) → bads ≡ [] → BadSays work.value 0 work.items bads → (index : ℕ) → index < size_of work → work.value (item_at work index) ≢ bad
-says-good work [] none says = says
-says-good work (index ∷ others) none says = absurd (let e : index ∷ others ≡ [] = none in cc)
-
-pub good-items : (work : Workload) → bad_indexes work ≡ [] → (index : ℕ) → index < size_of work → work.value (item_at work index) ≢ bad
-good-items work none = says-good work (bad_indexes work) none (bad-says work.value 0 work.items)
+pub job-ends : JobsFailAtTheFirst
+job-ends job items = says-ends job items (failing_indexes job items) refl (fails-say (is_refused job.fold) (value_of job.op) 0 items)

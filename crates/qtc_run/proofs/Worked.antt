@@ -1,13 +1,13 @@
 -- What the workers of an engine make of a job is what may be reported of it.
-use Rattle.std.proofs.Common.{◌≡◌, ◌≢◌, ℕ, zero, suc, ◌<◌, ◌≤◌, inl, Bool, true, false, eqb, List, [], ◌∷◌, length, get_or, Some, refl, ap, sym, subst, ◌∙◌, map, ⊎_elim, arith}
-use Rattle.std.specs.Prelude.{All, IsTrue, ◌&&◌, is_none, if◌then◌else◌}
+use Rattle.std.proofs.Common.{◌≡◌, ◌≢◌, ℕ, zero, suc, ◌<◌, ◌≤◌, inl, Bool, true, false, List, [], ◌∷◌, length, get_or, Option, None, Some, refl, ap, sym, subst, ◌∙◌, map, ⊎_elim, arith}
+use Rattle.std.specs.Prelude.{All, IsTrue, ◌&&◌, if◌then◌else◌}
 use Rattle.std.proofs.lemmas.Bool.{and_parts, cases_lt, true≢false}
-use Rattle.std.proofs.lemmas.Bool.Decides.{nat_tests}
 use Rattle.std.proofs.lemmas.List.{same_lists}
 use Rattle.std.proofs.lemmas.Option.{slice_get-get_or}
 use Rattle.qtc_base.specs.Decimal.{decimal_text, number_of}
 use Rattle.qtc_base.specs.Items.{PassesLimit}
 use Rattle.qtc_events.specs.Flags.{new_flags}
+use Rattle.qtc_events.specs.Journal.{calls_in}
 use Rattle.qtc_future.specs.Ends.{IsOutcome}
 use Rattle.qtc_future.specs.Future.{Future, Logged, entries_of, events_of, results_of}
 use Rattle.qtc_future.specs.Legal.{IsLegal}
@@ -17,7 +17,7 @@ use Rattle.qtc_job_file.specs.declared.jobs.Job.{Job}
 use Rattle.qtc_kernel.specs.EngineParts.{EngineParts}
 use Rattle.qtc_kernel.specs.Driving.{is_filter}
 use Rattle.qtc_kernel.specs.WorkedOut.{IsWorkedOut, IsOpenedAndFinished as IsOpened}
-use Rattle.qtc_kernel.specs.Workload.{Suits, Workload, bad_indexes, item_at, kept_texts, size_of, workload}
+use Rattle.qtc_kernel.specs.Workload.{Suits, Workload, kept_texts, workload}
 use Rattle.qtc_kernel.specs.declared.finishing.Finished.{Finished}
 use Rattle.qtc_kernel.specs.declared.kinds.Kind.{Kind}
 use Rattle.qtc_ops.specs.ItemValue.{ItemValue, kept, dropped, bad}
@@ -31,15 +31,19 @@ use Rattle.qtc_ops.specs.declared.operations.MapOp.TheVariants.{Same, Length, Di
 use Rattle.qtc_shared.specs.Journals.{flags_at}
 use Rattle.qtc_shared.specs.Parts.{Terms, future_at}
 use Rattle.qtc_store.specs.Stored.{Stored, IsFirstResults}
-use Rattle.qtc_run.specs.Laws.{AnswersAs, GoodJobsFinish, IsFailure, IsMadeOf, ReportsAreSequential, WorkedJobsAreReported}
-use Rattle.qtc_run.specs.Reports.{AreReported, EndsWith, IsOpenedAndFinished, LetsGoOn, calls_in, future_of, is_canceled_end, is_keep}
+use Rattle.qtc_run.specs.Chains.{chained}
+use Rattle.qtc_run.specs.FoldOrders.{AreInOrder, is_unordered}
+use Rattle.qtc_run.specs.Journals.{IsOpenedAndFinished, LetsGoOn}
+use Rattle.qtc_run.specs.Laws.{IsMadeOf, WorkedJobsAreReported}
+use Rattle.qtc_run.specs.Outputs.{is_canceled_end}
+use Rattle.qtc_run.specs.Reports.{AreReported, EndsWith, future_of, is_keep, pair_of, shown_partly}
 use Rattle.qtc_run.specs.Rounds.{HasDone, IsEngineFor, IsReady, IsReportFor, terms_of, work_in}
 use Rattle.qtc_run.specs.Runnable.{are_runnable, is_runnable}
-use Rattle.qtc_run.specs.Sequential.{ended_with, sequential}
+use Rattle.qtc_run.specs.Sources.{given, work_over}
 use Rattle.qtc_run.specs.declared.reports.JobReport.{JobReport}
-use Rattle.qtc_run.specs.declared.rounds.Source.{Source}
+use Rattle.qtc_run.specs.declared.rounds.RoundJob.{RoundJob}
 use Rattle.qtc_run.proofs.Going.{going-on}
-use Rattle.qtc_run.proofs.SequentialLemmas.{good-items}
+use Rattle.qtc_run.proofs.Plain.{IsPlain, bad-alone, bad-fails, ordered-alone, runnable-plain, texts-alone}
 
 some-same : {X : Type 0} (x y : X) → Some x ≡ Some y → x ≡ y
 some-same x y e = cc
@@ -52,29 +56,11 @@ first-unique store xs ys first second =
     let within : k < length ys = omega arith in
     some-same _ _ (sym (slice_get-get_or xs k d lt) ∙ (first.each k lt ∙ (sym (second.each k within) ∙ slice_get-get_or ys k d within))))
 
--- ---- jobs that are run so far
-
-pub record IsPlain (job : Job) : Type 0 where
-  pub whole : is_none job.fold ≡ true
-  pub cancel_after : job.cancel_after ≡ 0
-  pub suspend_after : job.suspend_after ≡ 0
-
-zero-of : (n : ℕ) → eqb n 0 ≡ true → n ≡ 0
-zero-of n is = grind (arith, nat_tests)
-
-pub runnable-plain : (job : Job) → is_runnable job ≡ true → IsPlain job
-runnable-plain job is =
-    let first = and_parts _ _ is in
-    let second = and_parts _ _ first.1 in
-    let third = and_parts _ _ second.1 in
-    let fourth = and_parts _ _ third.1 in
-    record { whole = second.0; cancel_after = zero-of job.cancel_after third.0; suspend_after = zero-of job.suspend_after fourth.0 }
-
+-- the future of the engine is that of the job
 and-true : (b : Bool) → (b && true) ≡ b
 and-true true = refl
 and-true false = refl
 
--- the future of the engine is that of the job
 plain-future : (job : Job) (workers : ℕ) (journal : List (Logged (List ℕ))) → IsPlain job → future_of job journal ≡ future_at (terms_of workers job) journal
 plain-future job workers journal plain =
     let with_mode : Bool → Future (List ℕ) = λ filter. record { filter = filter; thresholds = record { cancel_after = job.cancel_after; suspend_after = job.suspend_after }; calls = journal } in
@@ -91,64 +77,55 @@ opened journal is = record { between = is.between; whole = calls-of journal ∙ 
 
 -- ---- the report
 
-ends : (job : Job) (work : Workload) (workers : ℕ) (journal : List (Logged (List ℕ))) (report : JobReport) (outcome : Outcome (List ℕ)) → IsPlain job → IsWorkedOut work job.blocks (terms_of workers job) journal report.calls → report.journal ≡ entries_of journal → is_canceled_end outcome ≡ false → IsOutcome (future_at (terms_of workers job) journal) outcome → EndsWith job work report (future_at (terms_of workers job) journal) outcome
-ends job work workers journal report (Values values) plain worked journal_is going is =
+-- by ascending index, of which nothing is told
+in-order : (unordered : Bool) (work : Workload) (sizes : List ℕ) (order : Option (List ℕ)) → unordered ≡ false → order ≡ None → AreInOrder unordered work sizes order (kept_texts work)
+in-order false work sizes order is none = (none, refl)
+in-order true work sizes order is none = absurd (true≢false is)
+
+ends : (job : Job) (items : List (List ℕ)) (workers : ℕ) (journal : List (Logged (List ℕ))) (report : JobReport) (outcome : Outcome (List ℕ)) → IsPlain job → IsWorkedOut (work_over job items) job.blocks (terms_of workers job) journal report.calls → report.journal ≡ entries_of journal → report.order ≡ None → is_canceled_end outcome ≡ false → IsOutcome (future_at (terms_of workers job) journal) outcome → EndsWith job items report (future_at (terms_of workers job) journal) outcome
+ends job items workers journal report (Values values) plain worked journal_is order going is =
     let whole = worked.whole is.1 in
     record {
-      values_are = first-unique (results_of (future_at (terms_of workers job) journal)) values (kept_texts work) is.2 whole.results;
-      good = whole.good;
+      good = bad-alone job items plain.fold ∙ whole.good;
       unreached = inl plain.cancel_after;
+      texts = kept_texts (work_over job items);
+      in_order = in-order (is_unordered job) (work_over job items) job.blocks report.order (ordered-alone job plain.fold) order;
+      values_are = first-unique (results_of (future_at (terms_of workers job) journal)) values (kept_texts (work_over job items)) is.2 whole.results ∙ sym (texts-alone job (kept_texts (work_over job items)) plain.fold);
       called = whole.called;
-      tiled = whole.tiled;
+      tiled = λ none. whole.tiled;
       going = subst (All LetsGoOn) (sym journal_is) (going-on new_flags (entries_of journal) is.1);
     }
-ends job work workers journal report (Failed failure) plain worked journal_is going is =
-    record { failing = worked.failing failure is; kept = is }
-ends job work workers journal report Canceled plain worked journal_is going is = absurd (true≢false going)
+ends job items workers journal report (Failed failure) plain worked journal_is order going is =
+    record { failing = bad-fails job items failure (worked.failing failure is); called = worked.failed_call failure is; order = order }
+ends job items workers journal report Canceled plain worked journal_is order going is = absurd (true≢false going)
+
+-- nothing is shown of a job that was not canceled
+not-shown : (job : Job) (items : List (List ℕ)) (future : Future (List ℕ)) (outcome : Outcome (List ℕ)) → is_canceled_end outcome ≡ false → shown_partly job (given items) future outcome ≡ []
+not-shown job items future (Values values) going = refl
+not-shown job items future (Failed failure) going = refl
+not-shown job items future Canceled going = absurd (true≢false going)
 
 pub worked-reported : WorkedJobsAreReported
-worked-reported job work report workers journal ready worked made going =
+worked-reported job items report workers journal ready worked made going =
     let plain = runnable-plain job ready in
     let same : future_of job journal ≡ future_at (terms_of workers job) journal = plain-future job workers journal plain in
     record {
       logged = journal;
       legal = subst IsLegal (sym same) worked.lawful.legal;
       journal = made.journal;
-      opened = subst IsOpenedAndFinished (sym made.journal) (opened journal worked.opened);
-      called = worked.once;
-      reported = subst (AreReported job work report.calls) (sym same) (record { apart = worked.apart; within = worked.within; blocks = worked.blocks; called = worked.covered; texts = worked.texts });
-      ended = subst (λ (future : Future (List ℕ)). EndsWith job work report future report.ended) (sym same) (ends job work workers journal report report.ended plain worked made.journal going made.ended);
-      partial = made.partial;
-      order = made.order;
+      outcome = report.ended;
+      outcome_is = subst (λ (future : Future (List ℕ)). IsOutcome future report.ended) (sym same) made.ended;
+      comes = record {
+        opened = subst IsOpenedAndFinished (sym made.journal) (opened journal worked.opened);
+        called = worked.once;
+        reported = λ none. subst (AreReported job (work_over job items) report.calls) (sym same) (record { apart = worked.apart; within = worked.within; blocks = worked.blocks; good = worked.good; called = worked.covered; texts = worked.texts });
+        ended = subst (λ (future : Future (List ℕ)). EndsWith job items report future report.ended) (sym same) (ends job items workers journal report report.ended plain worked made.journal made.order going made.ended);
+      };
+      ended = sym (ap (chained report.ended) plain.chain);
+      partial = ap (map pair_of) made.partial ∙ sym (not-shown job items (future_of job journal) report.ended going);
       any = made.any;
       events = made.events ∙ ap (λ (future : Future (List ℕ)). if job.watch then events_of future else []) (sym same);
     }
-
--- ---- a job without a bad item
-
-finish-by : (job : Job) (work : Workload) (report : JobReport) (future : Future (List ℕ)) (outcome : Outcome (List ℕ)) → bad_indexes work ≡ [] → EndsWith job work report future outcome → outcome ≡ Values (kept_texts work)
-finish-by job work report future (Values values) good is = ap Values is.values_are
-finish-by job work report future (Failed failure) good is =
-    absurd (good-items work good failure.index is.failing.within is.failing.bad_value)
-finish-by job work report future Canceled good is = absurd is
-
-pub good-finish : GoodJobsFinish
-good-finish job work report is good = finish-by job work report (future_of job is.logged) report.ended good is.ended
-
--- ---- the sequential answer
-
-fails-too : (work : Workload) (bads : List ℕ) (index : ℕ) → bad_indexes work ≡ bads → index < size_of work → work.value (item_at work index) ≡ bad → IsFailure (ended_with work bads)
-fails-too work [] index none within is_bad = absurd (good-items work none index within is_bad)
-fails-too work (first ∷ others) index some within is_bad = tt
-
-answers-as : (job : Job) (work : Workload) (report : JobReport) (future : Future (List ℕ)) (outcome : Outcome (List ℕ)) → EndsWith job work report future outcome → AnswersAs outcome (sequential work)
-answers-as job work report future (Values values) is = ap (ended_with work) is.good ∙ ap Values (sym is.values_are)
-answers-as job work report future (Failed failure) is =
-    fails-too work (bad_indexes work) failure.index refl is.failing.within is.failing.bad_value
-answers-as job work report future Canceled is = is
-
-pub are-sequential : ReportsAreSequential
-are-sequential job work report is = answers-as job work report (future_of job is.logged) report.ended is.ended
 
 -- ---- the operation of a job
 
@@ -185,7 +162,7 @@ runnable-at (first ∷ jobs) (suc place) job all within is = runnable-at jobs pl
 
 -- ---- an engine that was closed
 
-pub closed-report : {F : Type 0} (value : F → List ℕ → ItemValue) (workers : ℕ) (source : Source) (parts : EngineParts F) (done : Finished F) (core : Future (List ℕ)) (report : JobReport) → WorkedJobsAreReported → IsReady source → IsEngineFor value workers source parts → HasDone value parts done → core ≡ future_at parts.future.terms core.calls → (IsTrue (flags_at done.pass.known).finished → core.calls ≡ done.pass.known) → report.calls ≡ done.calls → IsMadeOf source.job.now report core → is_canceled_end report.ended ≡ false → IsReportFor source report
+pub closed-report : {F : Type 0} (value : F → List ℕ → ItemValue) (workers : ℕ) (source : RoundJob) (parts : EngineParts F) (done : Finished F) (core : Future (List ℕ)) (report : JobReport) → WorkedJobsAreReported → IsReady source → IsEngineFor value workers source parts → HasDone value parts done → core ≡ future_at parts.future.terms core.calls → (IsTrue (flags_at done.pass.known).finished → core.calls ≡ done.pass.known) → report.calls ≡ done.calls → IsMadeOf source.job.now report core → is_canceled_end report.ended ≡ false → IsReportFor source report
 closed-report value workers source parts done core report law ready engine has core_is whole calls made going =
     let terms : Terms = parts.future.terms in
     let known : List (Logged (List ℕ)) = done.pass.known in
@@ -194,5 +171,5 @@ closed-report value workers source parts done core report law ready engine has c
     let third = subst (λ (terms : Terms). IsWorkedOut (work_in source) source.job.now.blocks terms known done.calls) engine.terms second in
     let fourth = subst (λ (journal : List (Logged (List ℕ))). IsWorkedOut (work_in source) source.job.now.blocks (terms_of workers source.job.now) journal done.calls) (sym (whole has.finished)) third in
     let fifth = subst (λ (calls : List ℕ). IsWorkedOut (work_in source) source.job.now.blocks (terms_of workers source.job.now) core.calls calls) (sym calls) fourth in
-    law source.job.now (work_in source) report workers core.calls ready.runnable fifth
+    law source.job.now source.items report workers core.calls ready.runnable fifth
     (subst (IsMadeOf source.job.now report) (core_is ∙ ap (λ (terms : Terms). future_at terms core.calls) engine.terms) made) going

@@ -1,32 +1,38 @@
 -- The laws of sources, sequential answers and reports. (Own.)
-use Rattle.std.specs.Prelude.{◌≡◌, ◌≢◌, ℕ, ◌+◌, ◌-◌, ◌<◌, ◌≤◌, ◌==◌, false, nat_lt, if◌then◌else◌, List, [], ◌∷◌, ◌++◌, All, IsTrue, None, length, slice_index_or}
-use Rattle.std.specs.List.{concat, count_by}
-use Rattle.qtc_base.specs.Items.{total_bytes}
+use Rattle.std.specs.Prelude.{◌≡◌, ◌≢◌, ℕ, ◌+◌, ◌-◌, ◌<◌, ◌≤◌, ◌==◌, ◌&&◌, Bool, true, false, nat_lt, if◌then◌else◌, List, [], ◌∷◌, ◌++◌, All, IsTrue, Option, None, length, slice_index_or, take}
+use Rattle.std.specs.List.{concat, count_by, range_with_len}
+use Rattle.qtc_base.specs.Items.{PassesLimit, total_bytes}
 use Rattle.qtc_base.specs.Lines.{lines}
 use Rattle.qtc_ops.specs.ItemValue.{bad}
+use Rattle.qtc_ops.specs.Operations.{value_of}
+use Rattle.qtc_future.specs.declared.replies.Failure.{Failure}
 use Rattle.qtc_future.specs.declared.replies.Outcome.{Outcome}
 use Rattle.qtc_future.specs.declared.replies.Outcome.TheVariants.{Values, Failed, Canceled}
 use Rattle.qtc_future.specs.Ends.{IsOutcome}
 use Rattle.qtc_future.specs.Future.{Future, Logged, events_of, journal_of}
 use Rattle.qtc_kernel.specs.Driving.{called_by}
-use Rattle.qtc_kernel.specs.Laws.{IsFailing}
 use Rattle.qtc_kernel.specs.Runs.{times_called}
 use Rattle.qtc_kernel.specs.WorkedOut.{IsWorkedOut}
-use Rattle.qtc_kernel.specs.Workload.{Workload, bad_indexes, item_at, kept_texts, worked_on}
+use Rattle.qtc_kernel.specs.Workload.{Workload, bad_indexes, item_at, kept_texts, size_of, worked_on}
 use Rattle.qtc_shared.specs.Parts.{future_at}
+use Rattle.qtc_job_file.specs.Lawful.{Lawful}
 use Rattle.qtc_job_file.specs.declared.jobs.Job.{Job}
 use Rattle.qtc_job_file.specs.declared.jobs.JobFile.{JobFile}
-use Rattle.qtc_job.specs.Grammar.{Reads}
-use Rattle.qtc_job.specs.Lines.{Line}
-use Rattle.qtc_run.specs.Sums.{IsCountable}
-use Rattle.qtc_run.specs.declared.reports.JobReport.{JobReport}
-use Rattle.qtc_run.specs.declared.reports.Report.{Report}
-use Rattle.qtc_run.specs.Reports.{AreReports, IsReport, is_canceled_end}
+use Rattle.qtc_run.specs.Chains.{chained}
+use Rattle.qtc_run.specs.Failing.{IsFailing, failing_indexes, fails_in}
+use Rattle.qtc_run.specs.FoldOrders.{AreBlockByBlock, is_unordered}
+use Rattle.qtc_run.specs.GoodRuns.{AreGood, IsGood}
+use Rattle.qtc_run.specs.Outputs.{AreReports, IsReportIn, is_canceled_end, is_unfinished}
+use Rattle.qtc_run.specs.Reports.{IsReport}
 use Rattle.qtc_run.specs.ReportTexts.{job_text, report_text}
 use Rattle.qtc_run.specs.Rounds.{terms_of}
-use Rattle.qtc_run.specs.Runnable.{is_runnable}
-use Rattle.qtc_run.specs.Sequential.{sequential}
-use Rattle.qtc_run.specs.Sources.{Texts, pieces_of, work_of}
+use Rattle.qtc_run.specs.Runnable.{are_runnable, is_runnable}
+use Rattle.qtc_run.specs.RunOrder.{run_order}
+use Rattle.qtc_run.specs.Sequential.{full_count, sequential, values_after}
+use Rattle.qtc_run.specs.Sources.{Texts, given, items_of, items_of_all, outcomes_of, pieces_of, source_of, work_over}
+use Rattle.qtc_run.specs.Sums.{Fits, items_of_first, items_of_run}
+use Rattle.qtc_run.specs.declared.reports.JobReport.{JobReport}
+use Rattle.qtc_run.specs.declared.reports.Report.{Report}
 
 -- ---- sources
 
@@ -54,16 +60,47 @@ LinesCountFeeds = (text : List ℕ) → LinesAreCounted text
 
 -- ---- the sequential answer
 
--- all values are kept or dropped, or the item is bad and none before it is
-abbrev pub EndsAs : Workload → Outcome (List ℕ) → Type 0
-EndsAs work (Values values) = (values ≡ kept_texts work) × All (λ item. work.value item ≢ bad) work.items
-EndsAs work (Failed failure) =
-    IsFailing work failure
-    × ((earlier : ℕ) → earlier < failure.index → work.value (item_at work earlier) ≢ bad)
-EndsAs work Canceled = ⊥
+-- no item fails, or this one does and none before it
+abbrev pub EndsAs : Job → List (List ℕ) → Outcome (List ℕ) → Type 0
+EndsAs job items (Values values) =
+    (values ≡ values_after job.fold (kept_texts (work_over job items))) × All (λ item. fails_in job item ≡ false) items
+EndsAs job items (Failed failure) =
+    IsFailing job items failure
+    × ((earlier : ℕ) → earlier < failure.index → fails_in job (item_at (work_over job items) earlier) ≡ false)
+EndsAs job items Canceled = ⊥
 
-abbrev pub JobsFailAtTheFirstBad : Type 0
-JobsFailAtTheFirstBad = (work : Workload) → EndsAs work (sequential work)
+abbrev pub JobsFailAtTheFirst : Type 0
+JobsFailAtTheFirst = (job : Job) (items : List (List ℕ)) → EndsAs job items (sequential job items)
+
+-- an item that fails is one of the items, and its value is bad, or a kept text that is bad for the fold
+pub record Fails (job : Job) (items : List (List ℕ)) (failure : Failure) : Type 0 where
+  pub within : failure.index < length items
+  pub item_is : failure.item ≡ item_at (work_over job items) failure.index
+  pub failing : fails_in job failure.item ≡ true
+  -- without a fold its value is bad
+  pub bad_value : job.fold ≡ None → value_of job.op failure.item ≡ bad
+
+abbrev pub FailuresAreOfItemsThatFail : Type 0
+FailuresAreOfItemsThatFail = (job : Job) (items : List (List ℕ)) (failure : Failure) →
+    IsFailing job items failure → Fails job items failure
+
+-- the number lies behind the begin of the block
+abbrev pub is_inside : ℕ → ℕ × ℕ → Bool
+is_inside number block = nat_lt block.0 number && nat_lt number block.1
+
+-- each number below n is one begin, or lies behind the begin of one block, and no other number is a begin: so the begins, sorted,
+-- start with 0 and strictly ascend; and as many blocks end at a number below n as begin there
+pub record GoFromBeginToBegin (n : ℕ) (begins : List ℕ) (blocks : List (ℕ × ℕ)) : Type 0 where
+  pub each : (number : ℕ) → number < n → times_called begins number + count_by (is_inside number) blocks ≡ 1
+  pub first : 1 ≤ n → times_called begins 0 ≡ 1
+  pub below : (number : ℕ) → n ≤ number → times_called begins number ≡ 0
+  pub ends : (number : ℕ) → 1 ≤ number → number < n →
+      count_by (λ block. block.1 == number) blocks ≡ times_called begins number
+
+abbrev pub BlocksGoFromBeginToBegin : Type 0
+BlocksGoFromBeginToBegin =
+    (work : Workload) (sizes begins : List ℕ) (texts : List (List ℕ)) → (is : AreBlockByBlock work sizes begins texts) →
+    GoFromBeginToBegin (size_of work) begins is.blocks
 
 -- each index below the number of items worked on once, and no other
 abbrev pub CallsAreOnce : Type 0
@@ -89,7 +126,7 @@ ReportsGoJobByJob = (workers : ℕ) (jobs : List Job) (reports : List JobReport)
 pub record ReportsStandByPlace (texts : Texts) (jobs : List Job) (reports : List JobReport) : Type 0 where
   pub number : length reports ≡ length jobs
   pub each : (place : ℕ) (d : Job) (e : JobReport) → place < length jobs →
-      let job = slice_index_or jobs place d in IsReport job (work_of texts job) (slice_index_or reports place e)
+      IsReportIn texts jobs reports (slice_index_or jobs place d) (slice_index_or reports place e)
 
 abbrev pub JobsAreReportedInOrder : Type 0
 JobsAreReportedInOrder = (texts : Texts) (jobs : List Job) (reports : List JobReport) →
@@ -107,30 +144,76 @@ pub record IsMadeOf (job : Job) (report : JobReport) (future : Future (List ℕ)
 -- what the workers of an engine make of a job that is run so far may be reported, where it was not canceled
 abbrev pub WorkedJobsAreReported : Type 0
 WorkedJobsAreReported =
-    (job : Job) (work : Workload) (report : JobReport) (workers : ℕ) (journal : List (Logged (List ℕ))) →
-    IsTrue (is_runnable job) → IsWorkedOut work job.blocks (terms_of workers job) journal report.calls →
+    (job : Job) (items : List (List ℕ)) (report : JobReport) (workers : ℕ) (journal : List (Logged (List ℕ))) →
+    IsTrue (is_runnable job) →
+    IsWorkedOut (work_over job items) job.blocks (terms_of workers job) journal report.calls →
     IsMadeOf job report (future_at (terms_of workers job) journal) → is_canceled_end report.ended ≡ false →
-    IsReport job work report
+    IsReport job (given items) None report
 
--- a job of which no item is bad ends with its kept texts, whoever worked on it
+-- ---- what a report comes to
+
+-- a job that nothing stops ends with values, and where no order is told, with those that the chain makes of the
+-- sequential answer, whoever worked on it
+pub record Finishes (job : Job) (items : List (List ℕ)) (report : JobReport) : Type 0 where
+  pub finished : is_unfinished report.ended ≡ false
+  pub sequentially : is_unordered job ≡ false → report.ended ≡ chained (sequential job items) job.chain
+
 abbrev pub GoodJobsFinish : Type 0
-GoodJobsFinish = (job : Job) (work : Workload) (report : JobReport) →
-    IsReport job work report → bad_indexes work ≡ [] → report.ended ≡ Values (kept_texts work)
+GoodJobsFinish = (job : Job) (items : List (List ℕ)) (choice : Option ℕ) (report : JobReport) →
+    IsReport job (given items) choice report → IsGood job items → Finishes job items report
 
--- the sequential answer to what a report says: just these values, or a failure, perhaps of another bad item
+-- the sequential answer to what a job came to: just these values, or a failure, perhaps of another item
 abbrev pub IsFailure : Outcome (List ℕ) → Type 0
 IsFailure (Failed failure) = Unit {0}
 IsFailure _ = ⊥
 
-abbrev pub AnswersAs : Outcome (List ℕ) → Outcome (List ℕ) → Type 0
-AnswersAs (Values values) answer = answer ≡ Values values
-AnswersAs (Failed failure) answer = IsFailure answer
-AnswersAs Canceled answer = ⊥
+abbrev pub AnswersAs : Job → List (List ℕ) → Outcome (List ℕ) → Type 0
+AnswersAs job items (Values values) = is_unordered job ≡ false → sequential job items ≡ Values values
+AnswersAs job items (Failed failure) = IsFailure (sequential job items)
+AnswersAs job items Canceled = (1 ≤ job.cancel_after) × (job.cancel_after ≤ full_count job items)
 
 abbrev pub ReportsAreSequential : Type 0
-ReportsAreSequential = (job : Job) (work : Workload) (report : JobReport) →
-    IsReport job work report → AnswersAs report.ended (sequential work)
+ReportsAreSequential = (job : Job) (items : List (List ℕ)) (choice : Option ℕ) (report : JobReport) →
+    (is : IsReport job (given items) choice report) →
+    (report.ended ≡ chained is.outcome job.chain) × AnswersAs job items is.outcome
 
--- every file that the grammar reads can be counted
-abbrev pub ReadFilesCanBeCounted : Type 0
-ReadFilesCanBeCounted = (lines : List Line) (file : JobFile) → Reads lines file → IsCountable file
+-- ---- jobs that are run so far
+
+-- the values of the sequential answer, or one of the items that fail
+abbrev pub EndsPlainly : Job → List (List ℕ) → Outcome (List ℕ) → Type 0
+EndsPlainly job items (Values values) = (values ≡ kept_texts (work_over job items)) × (failing_indexes job items ≡ [])
+EndsPlainly job items (Failed failure) = Fails job items failure
+EndsPlainly job items Canceled = ⊥
+
+-- it has the items of its texts, its report ends as its items were worked on, and nothing else is told
+pub record IsPlainReport (texts : Texts) (jobs : List Job) (reports : List JobReport) (job : Job) (report : JobReport) : Type 0 where
+  pub source : source_of texts jobs (outcomes_of reports) job.input ≡ given (items_of texts job.input)
+  pub ended : EndsPlainly job (items_of texts job.input) report.ended
+  pub partial : length report.partial ≡ 0
+  pub order : report.order ≡ None
+  pub any : report.any ≡ None
+
+abbrev pub RunnableJobsArePlain : Type 0
+RunnableJobsArePlain =
+    (texts : Texts) (jobs : List Job) (reports : List JobReport) (job : Job) (report : JobReport) →
+    IsTrue (is_runnable job) → IsReportIn texts jobs reports job report → IsPlainReport texts jobs reports job report
+
+-- the jobs are run in the order of the file, and their items are those of the texts
+pub record IsOverTexts (texts : Texts) (jobs : List Job) : Type 0 where
+  pub order : run_order jobs ≡ range_with_len 0 (length jobs)
+  pub items : (outcomes : List (Outcome (List ℕ))) (count : ℕ) → count ≤ length jobs →
+      items_of_first count texts jobs outcomes ≡ items_of_all texts (take count jobs)
+  pub whole : (outcomes : List (Outcome (List ℕ))) → items_of_run texts jobs outcomes ≡ items_of_all texts jobs
+  -- where the items of all texts pass no limit, those of a run don't
+  pub fits : ¬ PassesLimit (items_of_all texts jobs) → Fits texts jobs
+  -- where none of their items is bad, nothing stops a run
+  pub good : All (λ (job : Job). bad_indexes (work_over job (items_of texts job.input)) ≡ []) jobs → AreGood texts jobs
+
+abbrev pub RunnableRunsAreOverTexts : Type 0
+RunnableRunsAreOverTexts = (texts : Texts) (jobs : List Job) → IsTrue (are_runnable jobs) → IsOverTexts texts jobs
+
+-- no job of a run that nothing stops fails or is canceled
+abbrev pub GoodRunsFinish : Type 0
+GoodRunsFinish = (file : JobFile) (texts : Texts) (reports : List JobReport) → Lawful file →
+    AreReports texts file.jobs reports → AreGood texts file.jobs →
+    All (λ (report : JobReport). is_unfinished report.ended ≡ false) reports

@@ -1,40 +1,39 @@
 -- The jobs of a round: their engines, and the desks of the pool's workers. (Own.)
-use Rattle.std.specs.Prelude.{◌≡◌, ◌+◌, ◌<◌, ◌≤◌, ℕ, false, List, [], ◌∷◌, ◌++◌, All, IsTrue, length, replicate}
+use Rattle.std.specs.Prelude.{◌≡◌, ◌+◌, ◌<◌, ◌≤◌, ℕ, false, List, [], ◌∷◌, ◌++◌, All, IsTrue, None, length, replicate}
 use Rattle.qtc_job_file.specs.declared.jobs.Job.{Job}
 use Rattle.qtc_kernel.specs.EngineParts.{EngineParts, DeskState, IsDesk, work_of as engine_work}
 use Rattle.qtc_kernel.specs.Driving.{AreSizes}
 use Rattle.qtc_kernel.specs.WorkedOut.{IsWorkedOut}
-use Rattle.qtc_kernel.specs.Workload.{Workload, workload}
+use Rattle.qtc_kernel.specs.Workload.{Workload}
 use Rattle.qtc_kernel.specs.declared.finishing.Finished.{Finished}
 use Rattle.qtc_ops.specs.ItemValue.{ItemValue}
-use Rattle.qtc_ops.specs.Operations.{value_of}
 use Rattle.qtc_shared.specs.Journals.{flags_at}
 use Rattle.qtc_shared.specs.Parts.{Terms}
 use Rattle.qtc_run.specs.Reports.{IsReport, is_keep}
 use Rattle.qtc_run.specs.Runnable.{is_runnable}
-use Rattle.qtc_run.specs.Sources.{Texts, items_of}
+use Rattle.qtc_run.specs.Sources.{Texts, given, items_of, work_over}
 use Rattle.qtc_run.specs.declared.reports.JobReport.{JobReport}
-use Rattle.qtc_run.specs.declared.rounds.Source.{Source}
+use Rattle.qtc_run.specs.declared.rounds.RoundJob.{RoundJob}
 
 -- ---- jobs with their items
 
 -- the job of a file, with its items of the texts
-pub record IsSourceOf (texts : Texts) (job : Job) (source : Source) : Type 0 where
+pub record IsSourceOf (texts : Texts) (job : Job) (source : RoundJob) : Type 0 where
   pub job_is : source.job.now ≡ job
   pub items_are : source.items ≡ items_of texts job.input
 
 -- a job that can be run: one of at most 64, with few enough items
-pub record IsReady (source : Source) : Type 0 where
+pub record IsReady (source : RoundJob) : Type 0 where
   pub place : source.place < 64
   pub runnable : IsTrue (is_runnable source.job.now)
   pub blocks : AreSizes source.job.now.blocks
   pub few : length source.items ≤ 8388608
 
-abbrev pub work_in : Source → Workload
-work_in source = workload source.items (value_of source.job.now.op)
+abbrev pub work_in : RoundJob → Workload
+work_in source = work_over source.job.now source.items
 
-abbrev pub IsReportFor : Source → JobReport → Type 0
-IsReportFor source report = IsReport source.job.now (work_in source) report
+abbrev pub IsReportFor : RoundJob → JobReport → Type 0
+IsReportFor source report = IsReport source.job.now (given source.items) None report
 
 -- ---- engines
 
@@ -48,7 +47,7 @@ terms_of workers job = record {
 
 module _ {F : Type 0} (value : F → List ℕ → ItemValue) where
   -- the engine of a job: it works on the job's items by its operation and in its blocks, with so many workers
-  pub record IsEngineFor (workers : ℕ) (source : Source) (parts : EngineParts F) : Type 0 where
+  pub record IsEngineFor (workers : ℕ) (source : RoundJob) (parts : EngineParts F) : Type 0 where
     pub work : engine_work value parts ≡ work_in source
     pub sizes : parts.sizes ≡ source.job.now.blocks
     pub count : parts.counter.workers ≡ workers

@@ -2,12 +2,13 @@ ghost use Rattle.std.specs.Prelude.{◌≡◌, [], IfOk, if◌then◌else◌};
 ghost use Rattle.qtc_kernel.specs.Driving.{is_filter};
 ghost use Rattle.qtc_future.specs.Future.{events_of, journal_of};
 ghost use Rattle.qtc_run.specs.Laws.{IsMadeOf};
-ghost use Rattle.qtc_run.specs.Reports.{is_keep, is_canceled_end};
+ghost use Rattle.qtc_run.specs.Outputs.{is_canceled_end};
+ghost use Rattle.qtc_run.specs.Reports.{is_keep};
 ghost use Rattle.qtc_run.specs.Rounds.{HasDone, IsEngineFor, IsReady, IsReportFor};
 
 use crate::JobReport;
 use crate::laws::worked_jobs_are_reported;
-use crate::rounds::Source;
+use crate::rounds::RoundJob;
 use qtc_base::{Bytes, List, NoMemory};
 use qtc_events::{Entry, Event};
 use qtc_future::{FutureCore, Outcome};
@@ -91,7 +92,7 @@ fn report_from(
 pub fn report_of<F: ItemFn + Drop, G: Gate, R: Wait>(
     alloc: Global,
     rt: &R,
-    source: &Source<'_>,
+    source: &RoundJob<'_>,
     engine: Engine<'_, F, G>,
     done: Finished<F>,
     workers: u32,

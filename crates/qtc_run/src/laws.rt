@@ -1,5 +1,5 @@
 //! What the definitions of `specs/` come to, in other words.
-ghost use Rattle.qtc_run.specs.Laws.{CallsAreOnce, GoodJobsFinish, JobsAreReportedInOrder, JobsFailAtTheFirstBad, LinesCountFeeds, PiecesAreTheText, ReportsAreSequential, ReportsGoJobByJob, ReadFilesCanBeCounted, WorkedJobsAreReported};
+ghost use Rattle.qtc_run.specs.Laws.{BlocksGoFromBeginToBegin, CallsAreOnce, FailuresAreOfItemsThatFail, GoodJobsFinish, GoodRunsFinish, JobsAreReportedInOrder, JobsFailAtTheFirst, LinesCountFeeds, PiecesAreTheText, ReportsAreSequential, ReportsGoJobByJob, RunnableJobsArePlain, RunnableRunsAreOverTexts, WorkedJobsAreReported};
 
 /// Each piece but the last has as many bytes as the job says, the last has 1 to as many, and one after the other they
 /// are the text.
@@ -12,9 +12,20 @@ pub fn lines_count_feeds()
     ensures { LinesCountFeeds }
 {}
 
-/// The sequential answer is the first bad item, and where none is bad the kept texts.
-pub fn jobs_fail_at_the_first_bad()
-    ensures { JobsFailAtTheFirstBad }
+/// The sequential answer is the first item that fails, and where none does what the job makes of the kept texts.
+pub fn jobs_fail_at_the_first()
+    ensures { JobsFailAtTheFirst }
+{}
+
+/// An item that fails is one of the items; its value is bad, or a kept text that is bad for the fold.
+pub fn failures_are_of_items_that_fail()
+    ensures { FailuresAreOfItemsThatFail }
+{}
+
+/// Blocks that an unordered fold tells by their begins begin with 0, meet nowhere, and end where the next begins or at the
+/// end of the items.
+pub fn blocks_go_from_begin_to_begin()
+    ensures { BlocksGoFromBeginToBegin }
 {}
 
 /// Each index below the number of items worked on is called once, and no other is.
@@ -27,15 +38,32 @@ pub fn worked_jobs_are_reported()
     ensures { WorkedJobsAreReported }
 {}
 
-/// A job of which no item is bad ends with its kept texts, whoever worked on it.
+/// A job that nothing stops is reported finished, whoever worked on it, and where no order is told with what the chain
+/// makes of the sequential answer.
 pub fn good_jobs_finish()
     ensures { GoodJobsFinish }
 {}
 
-/// The values of a report are the sequential answer, whoever worked on the job; and where it failed, the sequential answer
-/// fails too.
+/// What a job came to before its chain is the sequential answer, whoever worked on it; where it failed, the sequential
+/// answer fails too; and where it was canceled, its results are as many as cancel it.
 pub fn reports_are_sequential()
     ensures { ReportsAreSequential }
+{}
+
+/// A report of a job that is run so far ends with the values of the sequential answer or with an item that fails, and
+/// tells no partial results, no order and no choice.
+pub fn runnable_jobs_are_plain()
+    ensures { RunnableJobsArePlain }
+{}
+
+/// The jobs that are run so far are run in the order of the file, over the items of the texts.
+pub fn runnable_runs_are_over_texts()
+    ensures { RunnableRunsAreOverTexts }
+{}
+
+/// No job of a run that nothing stops fails or is canceled.
+pub fn good_runs_finish()
+    ensures { GoodRunsFinish }
 {}
 
 /// One job more at the end of a file appends its text to the report.
@@ -46,9 +74,4 @@ pub fn reports_go_job_by_job()
 /// A run reports as many jobs as the file has, each at its place.
 pub fn jobs_are_reported_in_order()
     ensures { JobsAreReportedInOrder }
-{}
-
-/// Every file that the grammar reads has few enough jobs and items to be counted, and blocks of 1 to 65,536 items.
-pub fn read_files_can_be_counted()
-    ensures { ReadFilesCanBeCounted }
 {}

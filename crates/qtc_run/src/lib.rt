@@ -1,11 +1,10 @@
 //! The run of a job file over loaded texts: its jobs on one pool of workers, and the report of each.
 #![tactic(auto)]
 
-mod crowds;
+mod engine_desks;
 mod file_runs;
 mod job_runs;
 mod laws;
-mod places;
 mod report_rooms;
 mod report_texts;
 mod reports;
@@ -17,12 +16,14 @@ mod sources;
 mod sums;
 #[cfg(test)]
 mod tests;
+mod workers;
 
 pub use file_runs::run_file;
 pub use laws::{
-    calls_are_once, good_jobs_finish, jobs_are_reported_in_order, jobs_fail_at_the_first_bad,
-    lines_count_feeds, pieces_are_the_text, read_files_can_be_counted, reports_are_sequential,
-    reports_go_job_by_job, worked_jobs_are_reported,
+    blocks_go_from_begin_to_begin, calls_are_once, failures_are_of_items_that_fail,
+    good_jobs_finish, good_runs_finish, jobs_are_reported_in_order, jobs_fail_at_the_first,
+    lines_count_feeds, pieces_are_the_text, reports_are_sequential, reports_go_job_by_job,
+    runnable_jobs_are_plain, runnable_runs_are_over_texts, worked_jobs_are_reported,
 };
 pub use qtc_job_file::{Loaded, texts_named};
 pub use report_texts::report_text;

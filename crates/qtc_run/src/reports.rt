@@ -1,5 +1,5 @@
 ghost use Rattle.std.specs.Prelude.{◌≡◌};
-ghost use Rattle.qtc_run.specs.Reports.{is_unfinished as is_unfinished_end};
+ghost use Rattle.qtc_run.specs.Outputs.{is_unfinished as is_unfinished_end};
 
 use qtc_base::{Bytes, List, NoMemory};
 use qtc_events::{Entry, Event};
@@ -74,7 +74,7 @@ fn is_unfinished(ended: &Outcome<Bytes>) -> bool
 }
 
 impl Report {
-    ghost use Rattle.qtc_run.specs.Reports.{has_failed as has_failed_job};
+    ghost use Rattle.qtc_run.specs.Outputs.{has_failed as has_failed_job};
 
     /// Whether a job of the run failed or was canceled.
     pub fn has_failed(&self) -> bool

@@ -4,13 +4,13 @@ ghost use Rattle.std.specs.Vec.Iter.{into_iter_items};
 ghost use Rattle.qtc_kernel.specs.EngineParts.{EngineParts};
 ghost use Rattle.qtc_ops.specs.Operations.{value_of};
 ghost use Rattle.qtc_run.specs.Pairing.{EachPair};
-ghost use Rattle.qtc_run.specs.Reports.{IsPoolRun};
+ghost use Rattle.qtc_run.specs.Outputs.{IsPoolRun};
 ghost use Rattle.qtc_run.specs.Rounds.{AreFree, HasDone, IsEngineFor, IsFree, IsReady, IsReportFor, each_times};
 
-use crate::crowds::{Worker, run_crowd};
+use crate::engine_desks::EngineDesk;
 use crate::job_runs::{kind_of, report_of};
-use crate::places::Place;
 use crate::slots::Slot;
+use crate::workers::{Worker, run_workers};
 use crate::{JobReport, Report};
 use qtc_base::{Items, List, NoMemory, Value};
 use qtc_job_file::Job;
@@ -26,7 +26,7 @@ use std::vec::IntoIter;
 
 /// A job of the round: its place in the file, and its items.
 #[derive(Drop)]
-pub(crate) struct Source<'j> {
+pub(crate) struct RoundJob<'j> {
     pub place: u32,
     pub job: &'j Job,
     pub items: Items,
@@ -57,7 +57,7 @@ fn functions_of(alloc: Global, op: &ItemOp, workers: u32) -> Result<Vec<OpFn>, N
 /// An engine for the job, and its desks.
 fn open_job<'a, G: Gate>(
     alloc: Global,
-    source: &'a Source<'a>,
+    source: &'a RoundJob<'a>,
     workers: u32,
     gate: &'a G,
 ) -> Result<(Engine<'a, OpFn, G>, Vec<Desk<OpFn>>), NoMemory>
@@ -85,7 +85,7 @@ fn open_job<'a, G: Gate>(
 /// An engine for each job.
 fn open_all<'a, G: Gate>(
     alloc: Global,
-    sources: &'a [Source<'a>],
+    sources: &'a [RoundJob<'a>],
     workers: u32,
     gate: &'a G,
 ) -> Result<Opened<'a, G>, NoMemory>
@@ -111,7 +111,7 @@ fn open_all<'a, G: Gate>(
 fn queue_all<R: Wait>(
     alloc: Global,
     rt: &R,
-    sources: &[Source<'_>],
+    sources: &[RoundJob<'_>],
     workers: u32,
 ) -> Result<Pool<Slot>, NoMemory>
     requires ready { All IsReady sources.now }
@@ -125,45 +125,45 @@ fn queue_all<R: Wait>(
     Ok(pool)
 }
 
-/// A place at an engine for each of the next so many desks.
-fn seat_row<'e, 'a, F: ItemFn + Drop, G: Gate>(
+/// Binds each of the next so many desks to its engine.
+fn bind_row<'e, 'a, F: ItemFn + Drop, G: Gate>(
     engine: &'e Engine<'a, F, G>,
     count: u32,
     desks: &mut IntoIter<Desk<F>>,
-    places: &mut Vec<Place<'e, 'a, F, G>>,
+    bound: &mut Vec<EngineDesk<'e, 'a, F, G>>,
 ) -> Result<(), NoMemory>
     requires count { count ≤ length (into_iter_items desks.old) }
     requires free { All (IsFree F.value F.called engine.now) (take count (into_iter_items desks.old)) }
     ensures desks { OnOk result (into_iter_items desks.new ≡ drop count (into_iter_items desks.old)) }
-    ensures places { OnOk result (places.new.items ≡ places.old.items ++ replicate count engine.now) }
+    ensures bound { OnOk result (bound.new.items ≡ bound.old.items ++ replicate count engine.now) }
 {
     for _ in 0..count {
         if let Some(desk) = desks.next() {
-            places.push(Place::new(engine, desk))?;
+            bound.push(EngineDesk::new(engine, desk))?;
         }
     }
     Ok(())
 }
 
-/// A place at its engine for each desk.
-fn seat_all<'e, 'a, F: ItemFn + Drop, G: Gate>(
+/// Binds each desk to its engine.
+fn bind_all<'e, 'a, F: ItemFn + Drop, G: Gate>(
     alloc: Global,
     engines: &'e [Engine<'a, F, G>],
     desks: Vec<Desk<F>>,
     workers: u32,
-) -> Result<Vec<Place<'e, 'a, F, G>>, NoMemory>
+) -> Result<Vec<EngineDesk<'e, 'a, F, G>>, NoMemory>
     requires { EachPair (IsFree F.value F.called) (each_times workers engines.now) desks.items }
-    ensures { IfOk result (λ places. places.items ≡ each_times workers engines.now) }
+    ensures { IfOk result (λ bound. bound.items ≡ each_times workers engines.now) }
 {
-    let mut places = Vec::new(alloc);
+    let mut bound = Vec::new(alloc);
     let mut desks = desks.into_iter();
     for engine in engines {
-        seat_row(engine, workers, &mut desks, &mut places)?;
+        bind_row(engine, workers, &mut desks, &mut bound)?;
     }
-    Ok(places)
+    Ok(bound)
 }
 
-/// Lets so many workers do the tasks of the pool at the desks, and gives back a place for each desk.
+/// Lets so many workers do the tasks of the pool at the desks, and gives them back bound to their engines.
 fn work_on<'e, 'a, F: ItemFn + Drop, G: Gate, R: Threads + Wait + Sync>(
     alloc: Global,
     rt: &R,
@@ -171,20 +171,20 @@ fn work_on<'e, 'a, F: ItemFn + Drop, G: Gate, R: Threads + Wait + Sync>(
     engines: &'e [Engine<'a, F, G>],
     desks: Vec<Desk<F>>,
     workers: u32,
-) -> Result<Vec<Place<'e, 'a, F, G>>, NoMemory>
+) -> Result<Vec<EngineDesk<'e, 'a, F, G>>, NoMemory>
     requires desks { EachPair (IsFree F.value F.called) (each_times workers engines.now) desks.items }
     requires workers { 1 ≤ workers }
-    ensures { IfOk result (λ places. places.items ≡ each_times workers engines.now) }
+    ensures { IfOk result (λ bound. bound.items ≡ each_times workers engines.now) }
 {
-    let places = seat_all(alloc, engines, desks, workers)?;
-    let left = run_crowd(
+    let bound = bind_all(alloc, engines, desks, workers)?;
+    let left = run_workers(
         alloc,
         rt,
         pool,
-        places,
+        bound,
         engines.len(),
         workers,
-        &|pool: &Pool<Slot>, slot: &Slot, worker: &mut Worker<Place<'_, '_, F, G>>|
+        &|pool: &Pool<Slot>, slot: &Slot, worker: &mut Worker<EngineDesk<'_, '_, F, G>>|
             ensures { worker.new ≡ worker.old }
         {
             worker.work(rt, pool, slot);
@@ -193,66 +193,66 @@ fn work_on<'e, 'a, F: ItemFn + Drop, G: Gate, R: Threads + Wait + Sync>(
     Ok(left)
 }
 
-/// Lets a pool of so many workers do the jobs of the round at the desks, and gives back a place for each desk, and what
-/// the pool did.
+/// Lets a pool of so many workers do the jobs of the round at the desks, and gives them back bound to their engines, and
+/// what the pool did.
 fn work_round<'e, 'a, G: Gate, R: Threads + Wait + Sync>(
     alloc: Global,
     rt: &R,
-    sources: &[Source<'_>],
+    sources: &[RoundJob<'_>],
     engines: &'e [Engine<'a, OpFn, G>],
     desks: Vec<Desk<OpFn>>,
     workers: u32,
-) -> Result<(Vec<Place<'e, 'a, OpFn, G>>, List<PoolEntry>), NoMemory>
+) -> Result<(Vec<EngineDesk<'e, 'a, OpFn, G>>, List<PoolEntry>), NoMemory>
     requires ready { All IsReady sources.now }
     requires desks { EachPair (IsFree ⟦<OpFn as ItemFn>⟧.value ⟦<OpFn as ItemFn>⟧.called)
         (each_times workers engines.now) desks.items }
     requires workers { (1 ≤ workers) × (workers ≤ 32) }
-    ensures places { IfOk result (λ worked. worked.0.items ≡ each_times workers engines.now) }
+    ensures bound { IfOk result (λ worked. worked.0.items ≡ each_times workers engines.now) }
     ensures pool { IfOk result (λ worked. IsPoolRun workers worked.1) }
 {
     let pool = queue_all(alloc, rt, sources, workers)?;
-    let places = work_on(alloc, rt, &pool, engines, desks, workers)?;
+    let bound = work_on(alloc, rt, &pool, engines, desks, workers)?;
     let core = pool.close(rt);
     let journal = Vec::from_slice(alloc, core.journal())?;
-    Ok((places, List::from_vec(journal)))
+    Ok((bound, List::from_vec(journal)))
 }
 
-/// The desks of the next so many places.
+/// The next so many of these desks, without their engines.
 fn desks_at<'e, 'a, F: ItemFn + Drop, G: Gate>(
     alloc: Global,
-    places: &mut IntoIter<Place<'e, 'a, F, G>>,
+    bound: &mut IntoIter<EngineDesk<'e, 'a, F, G>>,
     count: u32,
 ) -> Result<Vec<Desk<F>>, NoMemory>
     ensures { IfOk result (λ desks. (parts : EngineParts F) (rest : PlainList (EngineParts F)) →
-        into_iter_items places.old ≡ replicate count parts ++ rest →
+        into_iter_items bound.old ≡ replicate count parts ++ rest →
         (length desks.items ≡ count) × All (IsFree F.value F.called parts) desks.items
-        × (into_iter_items places.new ≡ rest)) }
+        × (into_iter_items bound.new ≡ rest)) }
 {
     let mut desks = Vec::new(alloc);
     for _ in 0..count {
-        if let Some(place) = places.next() {
-            desks.push(place.into_desk())?;
+        if let Some(desk) = bound.next() {
+            desks.push(desk.into_desk())?;
         }
     }
     Ok(desks)
 }
 
-/// Finishes the engines in their order, each with the desks of its places.
+/// Finishes the engines in their order, each with its own desks.
 fn finish_all<'e, 'a, F: ItemFn + Drop, G: Gate, R: Wait>(
     alloc: Global,
     rt: &R,
     engines: &[Engine<'a, F, G>],
-    places: Vec<Place<'e, 'a, F, G>>,
+    bound: Vec<EngineDesk<'e, 'a, F, G>>,
     workers: u32,
 ) -> Result<Vec<Finished<F>>, NoMemory>
-    requires places { places.items ≡ each_times workers engines.now }
+    requires bound { bound.items ≡ each_times workers engines.now }
     requires workers { All (λ parts. parts.counter.workers ≡ workers) engines.now }
     ensures { IfOk result (λ finished. EachPair (HasDone F.value) engines.now finished.items) }
 {
     let mut finished = Vec::new(alloc);
-    let mut places = places.into_iter();
+    let mut bound = bound.into_iter();
     for engine in engines {
-        let desks = desks_at(alloc, &mut places, workers)?;
+        let desks = desks_at(alloc, &mut bound, workers)?;
         let done = engine.finish(rt, alloc, desks)?;
         finished.push(done)?;
     }
@@ -263,7 +263,7 @@ fn finish_all<'e, 'a, F: ItemFn + Drop, G: Gate, R: Wait>(
 fn report_all<'a, F: ItemFn + Drop, G: Gate, R: Wait>(
     alloc: Global,
     rt: &R,
-    sources: &[Source<'_>],
+    sources: &[RoundJob<'_>],
     engines: Vec<Engine<'a, F, G>>,
     finished: Vec<Finished<F>>,
     workers: u32,
@@ -296,7 +296,7 @@ fn report_all<'a, F: ItemFn + Drop, G: Gate, R: Wait>(
 pub fn run_round<G: Gate, R: Threads + Wait + Sync>(
     alloc: Global,
     rt: &R,
-    sources: &[Source<'_>],
+    sources: &[RoundJob<'_>],
     workers: u32,
     gate: &G,
 ) -> Result<Report, NoMemory>
@@ -306,8 +306,8 @@ pub fn run_round<G: Gate, R: Threads + Wait + Sync>(
     ensures pool { IfOk result (λ report. IsPoolRun workers report.pool) }
 {
     let Opened { engines, desks } = open_all(alloc, sources, workers, gate)?;
-    let (places, pool) = work_round(alloc, rt, sources, &engines, desks, workers)?;
-    let finished = finish_all(alloc, rt, &engines, places, workers)?;
+    let (bound, pool) = work_round(alloc, rt, sources, &engines, desks, workers)?;
+    let finished = finish_all(alloc, rt, &engines, bound, workers)?;
     let jobs = report_all(alloc, rt, sources, engines, finished, workers)?;
     Ok(Report { jobs, pool })
 }

@@ -4,7 +4,8 @@ ghost use Rattle.qtc_base.specs.Lines.{lines};
 ghost use Rattle.qtc_run.specs.Laws.{tail_count};
 ghost use Rattle.qtc_run.specs.Loaded.{HasAll, most_text};
 ghost use Rattle.qtc_run.specs.Sources.{items_of, names_of, pieces_of, text_of};
-ghost use Rattle.qtc_run.specs.Sums.{IsSizeOf, IsSized};
+ghost use Rattle.qtc_job_file.specs.Laws.{IsSized};
+ghost use Rattle.qtc_run.specs.Sums.{IsSizeOf};
 
 use crate::Loaded;
 use qtc_base::Bytes;

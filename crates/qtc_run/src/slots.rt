@@ -1,7 +1,7 @@
 //! The tasks of the pool: which worker of which job.
 ghost use Rattle.std.specs.Prelude.{MatchOption, ◌≡◌, ◌+◌, ◌*◌, ◌<◌, ◌≤◌};
 
-use crate::crowds::Worker;
+use crate::workers::Worker;
 use qtc_base::NoMemory;
 use qtc_pool::{Becomes, Pool};
 use qtc_pool_core::StartFault;
@@ -84,7 +84,7 @@ impl Slot {
     }
 }
 
-/// A task leaves a worker the places that it has, each at its own engine.
+/// A task leaves a worker the desks that it has, each of its own engine.
 impl<P> Becomes<Worker<P>> for Slot {
     ghost use Rattle.std.specs.Prelude.{◌≡◌};
     ghost use Rattle.std.proofs.Common.{refl, ◌∙◌};

@@ -4,7 +4,7 @@ ghost use Rattle.qtc_base.specs.Lines.{lines};
 ghost use Rattle.qtc_outside.specs.Shelf.{text_under};
 ghost use Rattle.qtc_run.specs.Loaded.{HasAll};
 ghost use Rattle.qtc_run.specs.Sources.{items_of, names_of, pieces_of, text_of};
-ghost use Rattle.qtc_run.specs.Sums.{IsSized};
+ghost use Rattle.qtc_job_file.specs.Laws.{IsSized};
 
 use crate::Loaded;
 use crate::sizes::Size;

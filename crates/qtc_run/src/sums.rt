@@ -1,5 +1,6 @@
-ghost use Rattle.std.specs.Prelude.{◌≡◌, IfOk, OnOk, IfErr, length};
+ghost use Rattle.std.specs.Prelude.{◌≡◌, IsTrue, IfOk, OnOk, IfErr, length};
 ghost use Rattle.qtc_base.specs.Items.{PassesLimit};
+ghost use Rattle.qtc_run.specs.Runnable.{are_runnable};
 ghost use Rattle.qtc_run.specs.Sources.{items_of_all};
 ghost use Rattle.qtc_run.specs.Sums.{CanCount, RefusesRun};
 
@@ -12,7 +13,8 @@ use std::alloc::Global;
 /// The size of the items of each job, before one of them is made: whether all of them together stay within the limits.
 /// The items of a text that two jobs read count twice.
 pub fn sizes_of(alloc: Global, jobs: &[Job], loaded: &Loaded) -> Result<Vec<Size>, RunFault>
-    requires { CanCount loaded.now jobs.now }
+    requires countable { CanCount loaded.now jobs.now }
+    requires runnable { IsTrue (are_runnable jobs.now) }
     ensures each { IfOk result (λ sizes. length sizes.items ≡ length jobs.now) }
     ensures fits { OnOk result (¬ PassesLimit (items_of_all loaded.now jobs.now)) }
     ensures refuses { IfErr result (RefusesRun loaded.now jobs.now) }

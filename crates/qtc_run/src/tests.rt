@@ -1,6 +1,6 @@
 ghost use Rattle.std.specs.Prelude.{◌≡◌, ◌∷◌, [], ◌++◌, ◌≤◌, IsTrue, length, is_some, IfOk};
 ghost use Rattle.std.specs.List.{list_all};
-ghost use Rattle.qtc_run.specs.Sums.{IsCountable};
+ghost use Rattle.qtc_job_file.specs.Lawful.{Lawful};
 ghost use Rattle.qtc_outside.specs.Shelf.{text_under};
 ghost use Rattle.qtc_run.specs.Loaded.{HasAll};
 ghost use Rattle.qtc_run.specs.Sources.{names_of, names_of_all};
@@ -56,7 +56,7 @@ fn has_all(file: &JobFile, loaded: &Loaded) -> bool
 }
 
 fn read(rt: &impl Abort, alloc: Global, text: &[u8]) -> Result<JobFile, Fail>
-    ensures { IfOk result IsCountable }
+    ensures { IfOk result Lawful }
 {
     assert!(rt; text.len() <= 1_048_576);
     Ok(parse(alloc, text)?)

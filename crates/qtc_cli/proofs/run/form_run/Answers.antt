@@ -1,13 +1,6 @@
 use Rattle.std.proofs.Common.{sym, ◌∙◌}
-use Rattle.qtc_run.proofs.Countable.{read-countable}
 use Rattle.qtc_cli.proofs.Runs.{run-stops}
 use Rattle.qtc_cli.proofs.run.form_run.Goals as goal
-
-pub workers_of-workers-requires-clause-file : goal.workers_of-workers-requires-clause-file
-workers_of-workers-requires-clause-file g c = read-countable _ _ c.in_ok-file.ensures.ok.reads
-
-pub run_file-requires-clause-countable : goal.run_file-requires-clause-countable
-run_file-requires-clause-countable g c κs within = read-countable _ _ c.in_ok-file.ensures.ok.reads
 
 pub returns-in-Err-clause-err : goal.returns-in-Err-clause-err
 returns-in-Err-clause-err g c =

@@ -14,4 +14,4 @@ returns-in-Check g c =
 
 pub returns-in-Run : goal.returns-in-Run
 returns-in-Run g c =
-    run-call-of c.good_jobs_finish.ensures (map string_bytes c.args.words.now) _ _ _ _ _ _ _ _ _ _ (c.in-Some.ensures.says ∙ ap (λ t. Some (form_said t c.in-Some.command.job.now)) c.in-Run.is) c.run_named.ensures
+    run-call-of c.files_that_are_read_are_lawful.ensures c.good_runs_finish.ensures (map string_bytes c.args.words.now) _ _ _ _ _ _ _ _ _ _ (c.in-Some.ensures.says ∙ ap (λ t. Some (form_said t c.in-Some.command.job.now)) c.in-Run.is) c.run_named.ensures

@@ -1,4 +1,4 @@
-use Rattle.qtc_run.proofs.Worked.{good-finish}
+use Rattle.qtc_run.proofs.Ended.{good-finish}
 use Rattle.qtc_run.proofs.laws.good_jobs_finish.Goals as goal
 
 pub returns : goal.returns

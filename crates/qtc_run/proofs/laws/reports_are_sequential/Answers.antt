@@ -1,4 +1,4 @@
-use Rattle.qtc_run.proofs.Worked.{are-sequential}
+use Rattle.qtc_run.proofs.Ended.{are-sequential}
 use Rattle.qtc_run.proofs.laws.reports_are_sequential.Goals as goal
 
 pub returns : goal.returns

@@ -7,5 +7,5 @@ use Rattle.qtc_run.proofs.rounds.finish_all.Given as goal
 abbrev pub invariant-loop-engine : goal.invariant-loop-engine
 invariant-loop-engine g l = record {
   done : EachPair (HasDone g.F.ItemFn.value) (take l.engine-index l.engines) l.finished.items;
-  left : into_iter_items l.places ≡ each_times l.workers (drop l.engine-index l.engines);
+  left : into_iter_items l.bound ≡ each_times l.workers (drop l.engine-index l.engines);
 }

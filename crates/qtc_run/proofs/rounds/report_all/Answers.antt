@@ -4,14 +4,14 @@ use Rattle.qtc_kernel.specs.EngineParts.{EngineParts}
 use Rattle.qtc_kernel.specs.declared.finishing.Finished.{Finished}
 use Rattle.qtc_run.specs.Pairing.{EachPair}
 use Rattle.qtc_run.specs.Rounds.{HasDone, IsEngineFor, IsReportFor}
-use Rattle.qtc_run.specs.declared.rounds.Source.{Source}
+use Rattle.qtc_run.specs.declared.rounds.RoundJob.{RoundJob}
 use Rattle.qtc_run.proofs.ReportLemmas.{pairs-next}
 use Rattle.qtc_run.proofs.Rows.{pairs-first}
 use Rattle.qtc_run.proofs.rounds.report_all.Goals as goal
 
 pub loop-source-preserved : goal.loop-source-preserved
 loop-source-preserved g c =
-    let R : Source → EngineParts g.row.F.Denot → Type 0 = IsEngineFor g.F.ItemFn.value c.args.workers in
+    let R : RoundJob → EngineParts g.row.F.Denot → Type 0 = IsEngineFor g.F.ItemFn.value c.args.workers in
     let more : List (EngineParts g.row.F.Denot) = into_iter_items c.next.new.self in
     let engines = subst (λ (engines : List (EngineParts g.row.F.Denot)). EachPair R (drop c.loop-source.source-index c.args.sources.now) engines) c.in-Some.ensures.cases.0 c.loop-source.invariant.engines in
     let finished = subst (λ (finished : List (Finished g.row.F.Denot)). EachPair (HasDone g.F.ItemFn.value) (c.in-Some.engine ∷ more) finished) c.in-Some-next.ensures.cases.0

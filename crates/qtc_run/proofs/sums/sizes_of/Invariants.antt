@@ -1,7 +1,6 @@
-use Rattle.std.proofs.Common.{◌≡◌, ◌≤◌, ◌<◌, ℕ, length, take}
+use Rattle.std.proofs.Common.{◌≡◌, ◌+◌, ◌≤◌, ◌<◌, ℕ, length, take}
 use Rattle.qtc_base.specs.Items.{total_bytes, PassesLimit}
 use Rattle.qtc_run.specs.Sources.{items_of_all}
-use Rattle.qtc_run.specs.Sums.{items_up_to}
 use Rattle.qtc_run.proofs.sums.sizes_of.Given as goal
 
 abbrev pub invariant-loop-place : goal.invariant-loop-place
@@ -11,5 +10,5 @@ invariant-loop-place l = record {
   size : l.bytes ≡ total_bytes (items_of_all l.loaded (take l.place l.jobs));
   few_items : l.items ≤ 8388608;
   few_bytes : l.bytes ≤ 536870912;
-  first : (earlier : ℕ) → earlier < l.place → PassesLimit (items_up_to l.loaded l.jobs earlier) → ⊥;
+  first : (earlier : ℕ) → earlier < l.place → PassesLimit (items_of_all l.loaded (take (earlier + 1) l.jobs)) → ⊥;
 }

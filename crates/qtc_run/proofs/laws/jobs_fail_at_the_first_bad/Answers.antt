@@ -1,5 +1,0 @@
-use Rattle.qtc_run.proofs.SequentialLemmas.{job-ends}
-use Rattle.qtc_run.proofs.laws.jobs_fail_at_the_first_bad.Goals as goal
-
-pub returns : goal.returns
-returns c = job-ends

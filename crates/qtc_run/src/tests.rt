@@ -23,7 +23,9 @@ use std::sync::atomic::Ordering::SeqCst;
 use std::test::Fail;
 use std::thread::{Threads, yield_now};
 
+mod gates;
 mod plain;
+mod pools;
 
 fn load(rt: &impl Abort, alloc: Global, texts: &[(&[u8], &[u8])]) -> Result<Loaded, NoMemory> {
     let mut loaded = Loaded::new(alloc);

@@ -7,6 +7,8 @@ use qtc_outside::{MemSink, MemTexts, NoGate, SureSink, SureTexts};
 use std::alloc::AllocError;
 use std::test::Fail;
 
+mod gates;
+
 const USAGE: &[u8] = b"qtc: usage: run [--workers N] JOB, check JOB, sample [--workers W] N\n";
 
 const SAME: &[u8] = b"job a\ninput lines t\nmap same\n";

@@ -25,9 +25,9 @@ use Rattle.qtc_kernel.proofs.Counting.{calls-append, calls-range, covers, times-
 use Rattle.qtc_kernel.proofs.Passing.{handed_on, knows_met, left_on, looked_on, looked_own, looked_same}
 
 -- what was its own call is, where more was called and memory was wanted
-pub own_more : (work : Workload) (lacks lacks' : Bool) (calls calls' : List ℕ) (logged : Logged (List ℕ)) → (lacks ≡ true → lacks' ≡ true) → ((index : ℕ) → times_called calls index ≤ times_called calls' index)
-    → IsOwnCall work lacks calls logged → IsOwnCall work lacks' calls' logged
-own_more work lacks lacks' calls calls' logged wants more is = record {
+pub own_more : (work : Workload) (wants_memory wants_memory' : Bool) (calls calls' : List ℕ) (logged : Logged (List ℕ)) → (wants_memory ≡ true → wants_memory' ≡ true) → ((index : ℕ) → times_called calls index ≤ times_called calls' index)
+    → IsOwnCall work wants_memory calls logged → IsOwnCall work wants_memory' calls' logged
+own_more work wants_memory wants_memory' calls calls' logged wants more is = record {
   own = is.own;
   fails = λ index call. let failed = is.fails index call in let some = failed.called in let all = more index in record { failing = failed.failing; called = omega arith };
   cancels = λ call. wants (is.cancels call);
@@ -43,8 +43,8 @@ own_cancel work calls logged is = record {
     not_fail : (index : ℕ) → Cancel ≡ Fail index → ⊥
     not_fail index e = absurd (cc)
 
-pub own_fail : (work : Workload) (lacks : Bool) (calls : List ℕ) (index : ℕ) (item : List ℕ) (logged : Logged (List ℕ)) → IsFailedCall work calls (record { index = index; item = item }) → logged.entry.call ≡ Fail index → logged.item ≡ item → IsOwnCall work lacks calls logged
-own_fail work lacks calls index item logged failed call_is item_is = record {
+pub own_fail : (work : Workload) (wants_memory : Bool) (calls : List ℕ) (index : ℕ) (item : List ℕ) (logged : Logged (List ℕ)) → IsFailedCall work calls (record { index = index; item = item }) → logged.entry.call ≡ Fail index → logged.item ≡ item → IsOwnCall work wants_memory calls logged
+own_fail work wants_memory calls index item logged failed call_is item_is = record {
   own = ap is_own call_is;
   fails = λ other fails.
       subst (λ i. IsFailedCall work calls (record { index = i; item = logged.item })) (same_index index other (sym call_is ∙ fails))
@@ -67,7 +67,7 @@ module _ {F : Type 0} (value : F → List ℕ → ItemValue) (called : F → Lis
     pub given : given_at parts.counter.n new ≡ given_at parts.counter.n old
     pub on : GoesOn old.pass new.pass
     pub same_value : value new.function ≡ value old.function
-    pub turn : new.turn ≡ old.turn
+    pub next_size : new.next_size ≡ old.next_size
 
   pub seated_on : (old new : DeskState F) → IsSeated value parts old → Follows old new → IsSeated value parts new
   seated_on old new seated follows = record {
@@ -79,25 +79,25 @@ module _ {F : Type 0} (value : F → List ℕ → ItemValue) (called : F → Lis
     below = subst (λ k. k < parts.counter.workers) (sym follows.number) seated.below;
     valued = follows.same_value ∙ seated.valued;
     opened = begins_further opening old.pass.known new.pass.known seated.opened follows.on.known;
-    turn = follows.turn ∙ seated.turn ∙ ap (λ given. length given % length parts.sizes) (sym follows.given);
+    next_size = follows.next_size ∙ seated.next_size ∙ ap (λ given. length given % length parts.sizes) (sym follows.given);
     sizes = subst (λ (given : List Addition). map (λ claim. claim.size) given ≡ in_turn parts.sizes (length given)) (sym follows.given) seated.sizes;
   }
 
   -- its own calls are those that they were, and its function called more at most
-  pub own_on : (old new : DeskState F) → AreOwnCalls value called parts old → calls_by new.pass.number new.pass.known ≡ calls_by old.pass.number old.pass.known → new.lacks ≡ old.lacks
+  pub own_on : (old new : DeskState F) → AreOwnCalls value called parts old → calls_by new.pass.number new.pass.known ≡ calls_by old.pass.number old.pass.known → new.wants_memory ≡ old.wants_memory
       → ((index : ℕ) → times_called (called old.function) index ≤ times_called (called new.function) index) → AreOwnCalls value called parts new
-  own_on old new own same lacks more =
-      subst (All (IsOwnCall (work_of value parts) new.lacks (called new.function))) (sym same)
-      (All-weaker (IsOwnCall (work_of value parts) old.lacks (called old.function)) (IsOwnCall (work_of value parts) new.lacks (called new.function))
-      (λ logged. own_more (work_of value parts) old.lacks new.lacks (called old.function) (called new.function) logged (λ is. lacks ∙ is) more) (calls_by old.pass.number old.pass.known) own)
+  own_on old new own same wants_memory more =
+      subst (All (IsOwnCall (work_of value parts) new.wants_memory (called new.function))) (sym same)
+      (All-weaker (IsOwnCall (work_of value parts) old.wants_memory (called old.function)) (IsOwnCall (work_of value parts) new.wants_memory (called new.function))
+      (λ logged. own_more (work_of value parts) old.wants_memory new.wants_memory (called old.function) (called new.function) logged (λ is. wants_memory ∙ is) more) (calls_by old.pass.number old.pass.known) own)
 
   -- a desk that called nothing more
   pub desk_on : (old new : DeskState F) → IsDesk value called parts old → Follows old new
-      → calls_by new.pass.number new.pass.known ≡ calls_by old.pass.number old.pass.known → new.lacks ≡ old.lacks → called new.function ≡ called old.function
+      → calls_by new.pass.number new.pass.known ≡ calls_by old.pass.number old.pass.known → new.wants_memory ≡ old.wants_memory → called new.function ≡ called old.function
       → IsDesk value called parts new
-  desk_on old new desk follows own lacks calls = record {
+  desk_on old new desk follows own wants_memory calls = record {
     seated = seated_on old new desk.seated follows;
-    own = own_on old new desk.own own lacks (λ index. let is : times_called (called new.function) index ≡ times_called (called old.function) index = ap (λ list. times_called list index) calls in omega (arith, is));
+    own = own_on old new desk.own own wants_memory (λ index. let is : times_called (called new.function) index ≡ times_called (called old.function) index = ap (λ list. times_called list index) calls in omega (arith, is));
     left = desk.left;
     one = desk.one;
     left_are = All-weaker (IsLeft parts.counter.n (reporter parts) old.pass) (IsLeft parts.counter.n (reporter parts) new.pass) (left_on parts.counter.n (reporter parts) old.pass new.pass follows.on) desk.left desk.left_are;
@@ -111,11 +111,11 @@ module _ {F : Type 0} (value : F → List ℕ → ItemValue) (called : F → Lis
   -- it has looked, and is in or out
   pub desk_looked : (old new : DeskState F) → IsDesk value called parts old
       → new.seat.of ≡ old.seat.of → new.seat.worker.number ≡ old.seat.worker.number → new.seat.worker.claims ≡ old.seat.worker.claims
-      → HasLooked old.pass new.pass → new.badge.of ≡ old.badge.of → new.function ≡ old.function → new.turn ≡ old.turn → new.lacks ≡ old.lacks
+      → HasLooked old.pass new.pass → new.badge.of ≡ old.badge.of → new.function ≡ old.function → new.next_size ≡ old.next_size → new.wants_memory ≡ old.wants_memory
       → IsDesk value called parts new
-  desk_looked old new desk of number claims looked badge function turn lacks =
-      desk_on old new desk (record { of = of; badge = badge; number = number; given = ap (gave parts.counter.n) claims; on = looked_on old.pass new.pass looked; same_value = ap value function; turn = turn })
-      (looked_own old.pass new.pass looked) lacks (ap called function)
+  desk_looked old new desk of number claims looked badge function turn wants_memory =
+      desk_on old new desk (record { of = of; badge = badge; number = number; given = ap (gave parts.counter.n) claims; on = looked_on old.pass new.pass looked; same_value = ap value function; next_size = turn })
+      (looked_own old.pass new.pass looked) wants_memory (ap called function)
 
   -- its worker is out
   pub desk_left : (old new : DeskState F) → IsDesk value called parts old → new ≡ record old { badge = record old.badge { is_in = false } } → IsDesk value called parts new

@@ -55,7 +55,7 @@ calls_more calls calls' later is index =
 
 module _ {F : Type 0} (value : F → List ℕ → ItemValue) (called : F → List ℕ) (parts : EngineParts F) (old : DeskState F) (piece : PieceState) (h : IsAtWork value called parts old piece)
     (new : DeskState F) (seat : new.seat ≡ old.seat) (badge : new.badge ≡ old.badge) (on : GoesOn old.pass new.pass) (own : calls_by new.pass.number new.pass.known ≡ calls_by old.pass.number old.pass.known)
-    (same_value : value new.function ≡ value old.function) (turn : new.turn ≡ old.turn) (lacks : new.lacks ≡ old.lacks) where
+    (same_value : value new.function ≡ value old.function) (turn : new.next_size ≡ old.next_size) (wants_memory : new.wants_memory ≡ old.wants_memory) where
   given : given_at parts.counter.n new ≡ h.claims ++ piece.addition ∷ []
   given = ap (λ (s : SeatState). gave parts.counter.n s.worker.claims) seat ∙ h.last
 
@@ -69,11 +69,11 @@ module _ {F : Type 0} (value : F → List ℕ → ItemValue) (called : F → Lis
         given = ap (λ (s : SeatState). gave parts.counter.n s.worker.claims) seat;
         on = on;
         same_value = same_value;
-        turn = turn;
+        next_size = turn;
       })
 
   own_more_called : (later : List ℕ) → called new.function ≡ called old.function ++ later → AreOwnCalls value called parts new
-  own_more_called later calls = own_on value called parts old new h.own own lacks (calls_more (called old.function) (called new.function) later calls)
+  own_more_called later calls = own_on value called parts old new h.own own wants_memory (calls_more (called old.function) (called new.function) later calls)
 
   -- a front of the indexes was called
   pub leaving : (at : ℕ) → (range_in parts piece).0 ≤ at → at ≤ (range_in parts piece).1 → called new.function ≡ called old.function ++ indexes_of ((range_in parts piece).0, at) → IsLeaving value called parts new piece

@@ -129,8 +129,8 @@ module _ {F : Type 0} (value : F → List ℕ → ItemValue) (called : F → Lis
     pass = pass_at parts.future number opening;
     badge = new_badge parts.active;
     function = function;
-    turn = 0;
-    lacks = false;
+    next_size = 0;
+    wants_memory = false;
   }
 
   new_desk : (number : ℕ) (function : F) → 1 ≤ length parts.sizes → number < parts.counter.workers → value function ≡ value_by value parts.functions → called function ≡ [] → IsDesk value called parts (desk_at number function)
@@ -144,7 +144,7 @@ module _ {F : Type 0} (value : F → List ℕ → ItemValue) (called : F → Lis
       below = below;
       valued = alike;
       opened = begins_same opening;
-      turn = sym (mod-eq_of_lt some);
+      next_size = sym (mod-eq_of_lt some);
       sizes = refl;
     };
     own =
@@ -201,7 +201,7 @@ module _ {F : Type 0} (value : F → List ℕ → ItemValue) (called : F → Lis
       (λ i within. ap (slice_get parts.functions) (omega arith) ∙ there (suc i) (omega arith)) (All-tail B badge badges out) in
       let first = new_desk k function some (omega arith) (All-head P function functions alike) (All-head Q function functions fresh) in
       let is : desks_with (seat ∷ seats) (pass ∷ passes) (badge ∷ badges) (function ∷ functions) ≡ desk_at k function ∷ desks_with seats passes badges functions =
-      λ i. record { seat = seat_is i; pass = pass_is i; badge = badge_is i; function = function; turn = 0; lacks = false } ∷ desks_with seats passes badges functions
+      λ i. record { seat = seat_is i; pass = pass_is i; badge = badge_is i; function = function; next_size = 0; wants_memory = false } ∷ desks_with seats passes badges functions
       in
       let count = rest.count_is in
       record {
@@ -212,7 +212,7 @@ module _ {F : Type 0} (value : F → List ℕ → ItemValue) (called : F → Lis
     where
       at : (i : ℕ) → i < length functions + 1 → ((j : ℕ) → j < length functions → IfSome (slice_get (desks_with seats passes badges functions) j) (IsNewDesk parts (k + 1 + j)))
           → IfSome (slice_get (desk_at k function ∷ desks_with seats passes badges functions) i) (IsNewDesk parts (k + i))
-      at zero within others = subst (λ j. IsNewDesk parts j (desk_at k function)) (omega arith) (record { seat = refl; pass = refl; function = ap (slice_get parts.functions) (omega arith) ∙ there 0 (omega arith); badge = refl; lacks = refl })
+      at zero within others = subst (λ j. IsNewDesk parts j (desk_at k function)) (omega arith) (record { seat = refl; pass = refl; function = ap (slice_get parts.functions) (omega arith) ∙ there 0 (omega arith); badge = refl; wants_memory = refl })
       at (suc i) within others = subst (λ j. IfSome (slice_get (desks_with seats passes badges functions) i) (IsNewDesk parts j)) (omega arith) (others i (omega arith))
 
 -- ---- the engine

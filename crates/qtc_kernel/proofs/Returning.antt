@@ -36,22 +36,22 @@ handed_back value called desks left others taken before after desks_are taken_is
 -- ---- memory
 
 -- what these wanted, those did
-same_wants : {F : Type 0} (others left : List (DeskState F)) → wants_at others ≡ wants_at left → All (λ desk. desk.lacks ≡ false) others → All (λ desk. desk.lacks ≡ false) left
-same_wants [] [] same none = All-nil (λ desk. desk.lacks ≡ false)
+same_wants : {F : Type 0} (others left : List (DeskState F)) → wants_at others ≡ wants_at left → All (λ desk. desk.wants_memory ≡ false) others → All (λ desk. desk.wants_memory ≡ false) left
+same_wants [] [] same none = All-nil (λ desk. desk.wants_memory ≡ false)
 same_wants [] (desk ∷ desks) same none = absurd (cc)
 same_wants (desk ∷ desks) [] same none = absurd (cc)
 same_wants (other ∷ others) (desk ∷ desks) same none =
-    let head : other.lacks ≡ desk.lacks = cc in
+    let head : other.wants_memory ≡ desk.wants_memory = cc in
     let tail : wants_at others ≡ wants_at desks = cc in
-    let first = All-head (λ d. d.lacks ≡ false) other others none in
-    All-cons (λ d. d.lacks ≡ false) desk desks (sym head ∙ first) (same_wants others desks tail (All-tail (λ d. d.lacks ≡ false) other others none))
+    let first = All-head (λ d. d.wants_memory ≡ false) other others none in
+    All-cons (λ d. d.wants_memory ≡ false) desk desks (sym head ∙ first) (same_wants others desks tail (All-tail (λ d. d.wants_memory ≡ false) other others none))
 
 -- no desk wanted memory, where neither the one that was worked on with nor another does
 pub none_wanted : {F : Type 0} (desks left others : List (DeskState F)) (taken : Option (DeskState F)) (before : DeskState F) → desks ≡ left ++ option_to_list taken → taken ≡ Some before → wants_at others ≡ wants_at left
-    → All (λ desk. desk.lacks ≡ false) others → before.lacks ≡ false → All (λ desk. desk.lacks ≡ false) desks
+    → All (λ desk. desk.wants_memory ≡ false) others → before.wants_memory ≡ false → All (λ desk. desk.wants_memory ≡ false) desks
 none_wanted desks left others taken before desks_are taken_is same none first =
-    subst (All (λ desk. desk.lacks ≡ false)) (sym (desks_are ∙ ap (λ o. left ++ option_to_list o) taken_is))
-    (All-push (λ desk. desk.lacks ≡ false) left before (same_wants others left same none) first)
+    subst (All (λ desk. desk.wants_memory ≡ false)) (sym (desks_are ∙ ap (λ o. left ++ option_to_list o) taken_is))
+    (All-push (λ desk. desk.wants_memory ≡ false) left before (same_wants others left same none) first)
 
 -- ---- a look after the finish
 

@@ -223,24 +223,24 @@ module _ {F : Type 0} (value : F → List ℕ → ItemValue) (called : F → Lis
   -- a desk that wanted no memory, and whose calls are among these
   record IsSettling (calls : List ℕ) (desk : DeskState F) : Type 0 where
     desk_is : IsDesk value called parts desk
-    lacks : desk.lacks ≡ false
+    wants_memory : desk.wants_memory ≡ false
     more : (index : ℕ) → times_called (called desk.function) index ≤ times_called calls index
 
-  are_settling : (calls : List ℕ) (desks : List (DeskState F)) → All (IsDesk value called parts) desks → All (λ desk. desk.lacks ≡ false) desks → All (λ desk. (index : ℕ) → times_called (called desk.function) index ≤ times_called calls index) desks
+  are_settling : (calls : List ℕ) (desks : List (DeskState F)) → All (IsDesk value called parts) desks → All (λ desk. desk.wants_memory ≡ false) desks → All (λ desk. (index : ℕ) → times_called (called desk.function) index ≤ times_called calls index) desks
       → All (IsSettling calls) desks
-  are_settling calls [] are lacks more = All-nil (IsSettling calls)
-  are_settling calls (desk ∷ desks) are lacks more =
-      let Lacks : DeskState F → Type 0 = λ d. d.lacks ≡ false in
+  are_settling calls [] are wants_memory more = All-nil (IsSettling calls)
+  are_settling calls (desk ∷ desks) are wants_memory more =
+      let Wants : DeskState F → Type 0 = λ d. d.wants_memory ≡ false in
       let More : DeskState F → Type 0 = λ d. (index : ℕ) → times_called (called d.function) index ≤ times_called calls index in
-      All-cons (IsSettling calls) desk desks (record { desk_is = All-head (IsDesk value called parts) desk desks are; lacks = All-head Lacks desk desks lacks; more = All-head More desk desks more })
-      (are_settling calls desks (All-tail (IsDesk value called parts) desk desks are) (All-tail Lacks desk desks lacks) (All-tail More desk desks more))
+      All-cons (IsSettling calls) desk desks (record { desk_is = All-head (IsDesk value called parts) desk desks are; wants_memory = All-head Wants desk desks wants_memory; more = All-head More desk desks more })
+      (are_settling calls desks (All-tail (IsDesk value called parts) desk desks are) (All-tail Wants desk desks wants_memory) (All-tail More desk desks more))
 
   own_met : (calls : List ℕ) (desk : DeskState F) (journal : Journal) → IsSettling calls desk → Meets desk.pass journal → All (IsOwnCall (work_of value parts) false calls) (calls_by desk.seat.worker.number journal)
   own_met calls desk journal is met =
       subst (λ k. All (IsOwnCall (work_of value parts) false calls) (calls_by k journal)) is.desk_is.seated.numbered
       (subst (All (IsOwnCall (work_of value parts) false calls)) (sym met.own)
-      (All-weaker (IsOwnCall (work_of value parts) desk.lacks (called desk.function)) (IsOwnCall (work_of value parts) false calls)
-      (λ logged. own_more (work_of value parts) desk.lacks false (called desk.function) calls logged (λ wants. sym is.lacks ∙ wants) is.more) (calls_by desk.pass.number desk.pass.known) is.desk_is.own))
+      (All-weaker (IsOwnCall (work_of value parts) desk.wants_memory (called desk.function)) (IsOwnCall (work_of value parts) false calls)
+      (λ logged. own_more (work_of value parts) desk.wants_memory false (called desk.function) calls logged (λ wants. sym is.wants_memory ∙ wants) is.more) (calls_by desk.pass.number desk.pass.known) is.desk_is.own))
 
   first_in : (calls : List ℕ) (desk : DeskState F) (journal : Journal) → IsSettling calls desk → Meets desk.pass journal → IsIn calls journal desk
   first_in calls desk journal is met = record {
@@ -352,7 +352,7 @@ module _ {F : Type 0} (value : F → List ℕ → ItemValue) (called : F → Lis
 
 module _ {F : Type 0} (value : F → List ℕ → ItemValue) (called : F → List ℕ) (parts : EngineParts F) (fits : FitTogether value parts) (first : DeskState F) (others : List (DeskState F)) (known : Journal) (ended : Bool) (s : AreSettled value parts first others known ended)
     (count : length (first ∷ others) ≡ parts.counter.workers) (first_is : IsDesk value called parts first) (others_are : All (IsDesk value called parts) others) (met : All (IsMet first.pass.known) others)
-    (over : (parts.counter.n ≤ first.seat.worker.seen) ⊎ HasMetEnd first.pass) (no_lack : first.lacks ≡ false) (none_lack : All (λ desk. desk.lacks ≡ false) others)
+    (over : (parts.counter.n ≤ first.seat.worker.seen) ⊎ HasMetEnd first.pass) (no_want : first.wants_memory ≡ false) (none_want : All (λ desk. desk.wants_memory ≡ false) others)
     (calls : List ℕ) (calls_are : (index : ℕ) → times_called calls index ≡ times_called (calls_at value called parts (first ∷ others)) index) where
   abbrev work : Workload
   work = work_of value parts
@@ -393,8 +393,8 @@ module _ {F : Type 0} (value : F → List ℕ → ItemValue) (called : F → Lis
   are_in : All (IsIn value called parts calls s.journal) desks
   are_in =
       let P = IsSettling value called parts calls in
-      let Lacks : DeskState F → Type 0 = λ d. d.lacks ≡ false in
-      let all = are_settling value called parts calls desks are_desks (All-cons Lacks first others no_lack none_lack) (each_calls value called parts desks calls (λ index. let are = calls_are index in omega (arith, are))) in
+      let Wants : DeskState F → Type 0 = λ d. d.wants_memory ≡ false in
+      let all = are_settling value called parts calls desks are_desks (All-cons Wants first others no_want none_want) (each_calls value called parts desks calls (λ index. let are = calls_are index in omega (arith, are))) in
       let one = first_in value called parts calls first s.journal (All-head P first others all) s.met in
       All-cons (IsIn value called parts calls s.journal) first others one
       (others_in value called parts calls others first.pass.known s.journal known (All-tail P first others all) met one.begins s.others_met begins)

@@ -17,7 +17,7 @@ use Rattle.qtc_kernel.specs.Workload.{first_bad, indexes_of, item_at}
 use Rattle.qtc_kernel.specs.EngineParts.{AreOwnCalls, AreWorkedOn, EngineParts, DeskState, HasMetEnd, FitTogether, IsDesk, IsLeft, IsSeated, given_at, opening, reporter, work_of}
 use Rattle.qtc_kernel.specs.Driving.{in_turn}
 use Rattle.qtc_kernel.specs.Runs.{times_called}
-use Rattle.qtc_kernel.specs.Turns.{Calls, ClaimsRange, GoesOn, IsLastTurn, LooksFree, IsTurn, goes_on, lacks_after}
+use Rattle.qtc_kernel.specs.Turns.{Calls, ClaimsRange, GoesOn, IsLastTurn, LooksFree, IsTurn, goes_on, wants_after}
 use Rattle.qtc_kernel.specs.WorkedOut.{Continues}
 use Rattle.qtc_kernel.specs.Working.{HasLooked, IsAtWork, IsReported, IsWorked, range_in}
 use Rattle.qtc_kernel.specs.declared.turn.Turn.{Turn}
@@ -58,24 +58,24 @@ more_sizes sizes given claim are is =
     ∙ ap (in_turn sizes) (sym (length-append given (claim ∷ [])))
 
 module _ {F : Type 0} (value : F → List ℕ → ItemValue) (called : F → List ℕ) (parts : EngineParts F) (fits : FitTogether value parts) where
-  pub turn_within : (desk : DeskState F) → IsSeated value parts desk → desk.turn < length parts.sizes
-  turn_within desk seated = turn_less desk.turn (length (given_at parts.counter.n desk)) (length parts.sizes) fits.sizes.some seated.turn
+  pub turn_within : (desk : DeskState F) → IsSeated value parts desk → desk.next_size < length parts.sizes
+  turn_within desk seated = turn_less desk.next_size (length (given_at parts.counter.n desk)) (length parts.sizes) fits.sizes.some seated.next_size
 
   pub size_least : (turn : ℕ) → turn < length parts.sizes → 1 ≤ slice_index parts.sizes turn
   size_least turn within = All-get_or (λ size. 1 ≤ size) parts.sizes turn 0 within fits.sizes.least
 
   module _ (old : DeskState F) (desk : IsDesk value called parts old) (mid : DeskState F) (looked : HasLooked old.pass mid.pass) (of : mid.seat.of ≡ parts.counter)
-      (badge : mid.badge.of ≡ old.badge.of) (function : mid.function ≡ old.function) (lacks : mid.lacks ≡ old.lacks) where
+      (badge : mid.badge.of ≡ old.badge.of) (function : mid.function ≡ old.function) (wants_memory : mid.wants_memory ≡ old.wants_memory) where
     own : AreOwnCalls value called parts mid
-    own = own_on value called parts old mid desk.own (looked_own old.pass mid.pass looked) lacks
+    own = own_on value called parts old mid desk.own (looked_own old.pass mid.pass looked) wants_memory
         (λ index. let is : times_called (called mid.function) index ≡ times_called (called old.function) index = ap (λ f. times_called (called f) index) function in omega (arith, is))
 
     -- a claim that gave no piece
-    pub found_nothing : (size : ℕ) → ClaimsNone parts.counter.n size old.seat.worker mid.seat.worker → mid.turn ≡ old.turn → IsDesk value called parts mid
+    pub found_nothing : (size : ℕ) → ClaimsNone parts.counter.n size old.seat.worker mid.seat.worker → mid.next_size ≡ old.next_size → IsDesk value called parts mid
     found_nothing size none turn =
         desk_on value called parts old mid desk
-        (record { of = of ∙ sym desk.seated.counter; badge = badge; number = number; given = given; on = looked_on old.pass mid.pass looked; same_value = ap value function; turn = turn })
-        (looked_own old.pass mid.pass looked) lacks (ap called function)
+        (record { of = of ∙ sym desk.seated.counter; badge = badge; number = number; given = given; on = looked_on old.pass mid.pass looked; same_value = ap value function; next_size = turn })
+        (looked_own old.pass mid.pass looked) wants_memory (ap called function)
       where
         number : mid.seat.worker.number ≡ old.seat.worker.number
         number = elim none [
@@ -89,8 +89,8 @@ module _ {F : Type 0} (value : F → List ℕ → ItemValue) (called : F → Lis
           | inr added ↦ ap (λ (w : Worker). gave parts.counter.n w.claims) added.2.grown ∙ gave_same parts.counter.n old.seat.worker.claims added.0 added.1
         ]
 
-    module _ (piece : PieceState) (claim : ClaimsPiece parts.counter (slice_index parts.sizes old.turn) old.seat.worker mid.seat.worker piece) (none_met : HasMetEnd old.pass → ⊥)
-        (turn : mid.turn ≡ cond (nat_lt (old.turn + 1) (length parts.sizes)) (old.turn + 1) 0) where
+    module _ (piece : PieceState) (claim : ClaimsPiece parts.counter (slice_index parts.sizes old.next_size) old.seat.worker mid.seat.worker piece) (none_met : HasMetEnd old.pass → ⊥)
+        (turn : mid.next_size ≡ cond (nat_lt (old.next_size + 1) (length parts.sizes)) (old.next_size + 1) 0) where
       given_more : given_at parts.counter.n mid ≡ given_at parts.counter.n old ++ piece.addition ∷ []
       given_more = ap (λ (w : Worker). gave parts.counter.n w.claims) claim.adds.grown ∙ gave_more parts.counter.n old.seat.worker.claims piece.addition claim.below
 
@@ -105,9 +105,9 @@ module _ {F : Type 0} (value : F → List ℕ → ItemValue) (called : F → Lis
           by (claim ∷ claims) all = absurd (none_met (knows_met old.pass (All-head Left claim claims all).ended))
 
       size_is : piece.addition.size ≡ slice_index parts.sizes (length (given_at parts.counter.n old) % length parts.sizes)
-      size_is = claim.adds.sized ∙ ap (slice_index parts.sizes) desk.seated.turn
+      size_is = claim.adds.sized ∙ ap (slice_index parts.sizes) desk.seated.next_size
 
-      within : old.turn < length parts.sizes
+      within : old.next_size < length parts.sizes
       within = turn_within old desk.seated
 
       seated : IsSeated value parts mid
@@ -124,7 +124,7 @@ module _ {F : Type 0} (value : F → List ℕ → ItemValue) (called : F → Lis
             below = subst (λ k. k < parts.counter.workers) (sym number) desk.seated.below;
             valued = ap value function ∙ desk.seated.valued;
             opened = begins_further opening old.pass.known mid.pass.known desk.seated.opened on.known;
-            turn = turn ∙ next_turn count (length parts.sizes) old.turn within desk.seated.turn
+            next_size = turn ∙ next_turn count (length parts.sizes) old.next_size within desk.seated.next_size
                 ∙ ap (λ k. k % length parts.sizes) (sym (length-append (given_at parts.counter.n old) (piece.addition ∷ [])) ∙ sym (ap length given_more));
             sizes = subst (λ (given : List Addition). map (λ it. it.size) given ≡ in_turn parts.sizes (length given)) (sym given_more) (more_sizes parts.sizes (given_at parts.counter.n old) piece.addition desk.seated.sizes size_is);
           }
@@ -141,8 +141,8 @@ module _ {F : Type 0} (value : F → List ℕ → ItemValue) (called : F → Lis
         piece_is = record {
           of = claim.of;
           below = claim.below;
-          some = subst (λ size. 1 ≤ size) (sym claim.adds.sized) (size_least old.turn within);
-          listed = subst (Contains parts.sizes) (sym claim.adds.sized) (Contains-get_or parts.sizes old.turn 0 within);
+          some = subst (λ size. 1 ≤ size) (sym claim.adds.sized) (size_least old.next_size within);
+          listed = subst (Contains parts.sizes) (sym claim.adds.sized) (Contains-get_or parts.sizes old.next_size 0 within);
         };
       }
 
@@ -156,7 +156,7 @@ module _ {F : Type 0} (value : F → List ℕ → ItemValue) (called : F → Lis
           claims : (range : ℕ × ℕ) → range ≡ range_in parts piece → ClaimsRange value called parts old new range
           claims range is = record {
             claim = piece.addition;
-            added = subst (LoadsAndAdds (slice_index parts.sizes old.turn) old.seat.worker piece.addition) (sym (ap (λ (s : SeatState). s.worker) seat)) claim.adds;
+            added = subst (LoadsAndAdds (slice_index parts.sizes old.next_size) old.seat.worker piece.addition) (sym (ap (λ (s : SeatState). s.worker) seat)) claim.adds;
             below = claim.below;
             range_is = is;
           }
@@ -256,17 +256,17 @@ last_over value called parts old new turn last pass on = elim (turn_over value c
 ]
 
 -- a block that was done leaves what was wanted
-pub lacks_did : (lacks : Bool) (turn : Turn) → goes_on turn ≡ true → lacks_after lacks turn ≡ lacks
-lacks_did lacks (Did range) did = refl
-lacks_did lacks Exhausted did = absurd (false≢true did)
-lacks_did lacks SawCanceled did = absurd (false≢true did)
-lacks_did lacks (Failed index) did = absurd (false≢true did)
-lacks_did lacks Memory did = absurd (false≢true did)
+pub wants_did : (wants_memory : Bool) (turn : Turn) → goes_on turn ≡ true → wants_after wants_memory turn ≡ wants_memory
+wants_did wants_memory (Did range) did = refl
+wants_did wants_memory Exhausted did = absurd (false≢true did)
+wants_did wants_memory SawCanceled did = absurd (false≢true did)
+wants_did wants_memory (Failed index) did = absurd (false≢true did)
+wants_did wants_memory Memory did = absurd (false≢true did)
 
 -- whoever wanted memory before a turn wants it after
-pub lacked_none : (lacks : Bool) (turn : Turn) → lacks_after lacks turn ≡ false → lacks ≡ false
-lacked_none lacks (Did range) none = none
-lacked_none lacks Exhausted none = none
-lacked_none lacks SawCanceled none = none
-lacked_none lacks (Failed index) none = none
-lacked_none lacks Memory none = absurd (false≢true (sym none))
+pub wanted_none : (wants_memory : Bool) (turn : Turn) → wants_after wants_memory turn ≡ false → wants_memory ≡ false
+wanted_none wants_memory (Did range) none = none
+wanted_none wants_memory Exhausted none = none
+wanted_none wants_memory SawCanceled none = none
+wanted_none wants_memory (Failed index) none = none
+wanted_none wants_memory Memory none = absurd (false≢true (sym none))

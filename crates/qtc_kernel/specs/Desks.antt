@@ -12,8 +12,8 @@ desk_state a = record {
   pass = a.pass;
   badge = a.badge;
   function = a.function;
-  turn = a.turn;
-  lacks = a.lacks;
+  next_size = a.next_size;
+  wants_memory = a.wants_memory;
 }
 
 -- the fields of an engine are its parts, which fit each other

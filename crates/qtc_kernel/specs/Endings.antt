@@ -28,7 +28,7 @@ functions_at desks = map (λ desk. desk.function) desks
 
 -- which of them wanted memory
 abbrev pub wants_at : {F : Type 0} → List (DeskState F) → List Bool
-wants_at desks = map (λ desk. desk.lacks) desks
+wants_at desks = map (λ desk. desk.wants_memory) desks
 
 -- the pass knows what it knew, and none was made from it meanwhile
 pub record KnowsTheSame (old new : PassState (List ℕ)) : Type 0 where

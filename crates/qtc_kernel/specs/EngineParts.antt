@@ -118,8 +118,8 @@ pub record DeskState (F : Type 0) : Type 0 where
   pub pass : PassState (List ℕ)
   pub badge : BadgeState
   pub function : F
-  pub turn : ℕ
-  pub lacks : Bool
+  pub next_size : ℕ
+  pub wants_memory : Bool
 
 -- its claims that gave a piece, in order
 abbrev pub given_at : {F : Type 0} → ℕ → DeskState F → List Addition
@@ -139,11 +139,11 @@ pub record IsFailedCall (work : Workload) (calls : List ℕ) (failure : Failure)
 
 -- what a worker's own pass may have called: the start, a fail of a bad item on which its function was called, and a cancel
 -- where it wanted memory
-pub record IsOwnCall (work : Workload) (lacks : Bool) (calls : List ℕ) (logged : Logged (List ℕ)) : Type 0 where
+pub record IsOwnCall (work : Workload) (wants_memory : Bool) (calls : List ℕ) (logged : Logged (List ℕ)) : Type 0 where
   pub own : IsTrue (is_own logged.entry.call)
   pub fails : (index : ℕ) → logged.entry.call ≡ Fail index
       → IsFailedCall work calls (record { index = index; item = logged.item })
-  pub cancels : logged.entry.call ≡ Cancel → IsTrue lacks
+  pub cancels : logged.entry.call ≡ Cancel → IsTrue wants_memory
 
 -- the indexes of each of these claims were called, and no others but those of the last, where that was left
 pub record AreWorkedOn (n : ℕ) (claims : List Addition) (left : List Addition) (calls : List ℕ) : Type 0 where
@@ -167,7 +167,7 @@ pub record IsNewDesk {F : Type 0} (parts : EngineParts F) (number : ℕ) (desk :
   pub pass : desk.pass ≡ pass_at parts.future number opening
   pub function : slice_get parts.functions number ≡ Some desk.function
   pub badge : desk.badge ≡ new_badge parts.active
-  pub lacks : desk.lacks ≡ false
+  pub wants_memory : desk.wants_memory ≡ false
 
 -- desks of these seats, passes, badges and functions, as they stand beside each other
 abbrev pub desks_with : {F : Type 0} → List SeatState → List (PassState (List ℕ)) → List BadgeState → List F
@@ -178,8 +178,8 @@ desks_with (seat ∷ seats) (pass ∷ passes) (badge ∷ badges) (function ∷ f
       pass = pass;
       badge = badge;
       function = function;
-      turn = 0;
-      lacks = false;
+      next_size = 0;
+      wants_memory = false;
     }
     ∷ desks_with seats passes badges functions
 desks_with _ _ _ _ = []
@@ -194,14 +194,14 @@ pub record IsSeated {F : Type 0} (value : F → List ℕ → ItemValue) (parts :
   pub below : desk.seat.worker.number < parts.counter.workers
   pub valued : value desk.function ≡ value_by value parts.functions
   pub opened : BeginsWith desk.pass.known opening
-  pub turn : desk.turn ≡ length (given_at parts.counter.n desk) % length parts.sizes
+  pub next_size : desk.next_size ≡ length (given_at parts.counter.n desk) % length parts.sizes
   pub sizes : map (λ claim. claim.size) (given_at parts.counter.n desk)
       ≡ in_turn parts.sizes (length (given_at parts.counter.n desk))
 
 -- the calls of its own pass
 abbrev pub AreOwnCalls : {F : Type 0} → (F → List ℕ → ItemValue) → (F → List ℕ) → EngineParts F → DeskState F → Type 0
 AreOwnCalls value called parts desk =
-    All (IsOwnCall (work_of value parts) desk.lacks (called desk.function)) (calls_by desk.pass.number desk.pass.known)
+    All (IsOwnCall (work_of value parts) desk.wants_memory (called desk.function)) (calls_by desk.pass.number desk.pass.known)
 
 -- a claim of which a front at most was called: the pass knows an end, and no report of this number covers any of it
 pub record IsLeft (n number : ℕ) (pass : PassState (List ℕ)) (claim : Addition) : Type 0 where
@@ -228,7 +228,7 @@ pub record IsSameButLooks {F : Type 0} (old new : DeskState F) : Type 0 where
   pub known : new.pass.known ≡ old.pass.known
   pub function : new.function ≡ old.function
   pub is_in : new.badge.is_in ≡ old.badge.is_in
-  pub lacks : new.lacks ≡ old.lacks
+  pub wants_memory : new.wants_memory ≡ old.wants_memory
 
 -- ---- the board
 

@@ -53,7 +53,7 @@ module _ {F : Type 0} (value : F → List ℕ → ItemValue) (called : F → Lis
   -- one claim more, of the size whose turn it was, which gave this range
   pub record ClaimsRange (old new : DeskState F) (range : ℕ × ℕ) : Type 0 where
     pub claim : Addition
-    pub added : LoadsAndAdds (slice_index parts.sizes old.turn) old.seat.worker claim new.seat.worker
+    pub added : LoadsAndAdds (slice_index parts.sizes old.next_size) old.seat.worker claim new.seat.worker
     pub below : claim.begin < parts.counter.n
     pub range_is : range ≡ clipped parts.counter.n claim
 
@@ -73,7 +73,7 @@ module _ {F : Type 0} (value : F → List ℕ → ItemValue) (called : F → Lis
   -- nothing was left to claim
   pub record FindsNothing (old new : DeskState F) : Type 0 where
     pub looked : LooksFree old.pass new.pass
-    pub claims : ClaimsNone parts.counter.n (slice_index parts.sizes old.turn) old.seat.worker new.seat.worker
+    pub claims : ClaimsNone parts.counter.n (slice_index parts.sizes old.next_size) old.seat.worker new.seat.worker
     pub calls : called new.function ≡ called old.function
 
   -- the last look showed an end, before a claim
@@ -152,6 +152,6 @@ pub record IsLastTurn {F : Type 0} (value : F → List ℕ → ItemValue) (calle
   pub over : goes_on turn ≡ false
 
 -- whether a worker wanted memory, after one more turn
-abbrev pub lacks_after : Bool → Turn → Bool
-lacks_after lacks Memory = true
-lacks_after lacks _ = lacks
+abbrev pub wants_after : Bool → Turn → Bool
+wants_after wants_memory Memory = true
+wants_after wants_memory _ = wants_memory

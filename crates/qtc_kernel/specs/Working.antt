@@ -11,7 +11,7 @@ use Rattle.qtc_ops.specs.ItemValue.{ItemValue}
 use Rattle.qtc_shared.specs.Journals.{flags_at}
 use Rattle.qtc_shared.specs.Passes.{PassState, having_seen}
 use Rattle.qtc_kernel.specs.EngineParts.{AreHandedIn, AreOwnCalls, AreWorkedOn, EngineParts, DeskState, HasMetEnd, IsSeated, KnowsEnd, given_at, is_strange, ranges_by, reporter, shows_end, work_of}
-use Rattle.qtc_kernel.specs.Turns.{Calls, HasMade, lacks_after}
+use Rattle.qtc_kernel.specs.Turns.{Calls, HasMade, wants_after}
 use Rattle.qtc_kernel.specs.Workload.{first_bad, item_at}
 use Rattle.qtc_kernel.specs.declared.turn.Turn.{Turn}
 use Rattle.qtc_kernel.specs.declared.turn.Turn.TheVariants.{Did, Exhausted, SawCanceled, Failed, Memory}
@@ -57,7 +57,7 @@ pub record StaysAtWork {F : Type 0} (old new : DeskState F) (turn : Turn) : Type
   pub number : new.pass.number ≡ old.pass.number
   pub looks : new.pass.looks ≡ old.pass.looks
   pub badge : new.badge ≡ old.badge
-  pub lacks : new.lacks ≡ lacks_after old.lacks turn
+  pub wants_memory : new.wants_memory ≡ wants_after old.wants_memory turn
 
 module _ {F : Type 0} (value : F → List ℕ → ItemValue) (called : F → List ℕ) (parts : EngineParts F) where
   -- a desk whose worker has a piece in hand, of its last claim; all claims before were worked on and handed in
@@ -112,7 +112,7 @@ pub record StaysSeated {F : Type 0} (old new : DeskState F) : Type 0 where
 pub record HasGivenUp {F : Type 0} (old new : DeskState F) (turn : Turn) : Type 0 where
   pub stays : StaysSeated old new
   pub turn_is : turn ≡ Memory
-  pub lacks : new.lacks ≡ true
+  pub wants_memory : new.wants_memory ≡ true
   pub cancels : HasMade old.pass new.pass Cancel
   pub met : HasMetEnd new.pass
 
@@ -120,7 +120,7 @@ pub record HasGivenUp {F : Type 0} (old new : DeskState F) (turn : Turn) : Type 
 pub record HasFailed {F : Type 0} (old new : DeskState F) (index : ℕ) (item : List ℕ) (turn : Turn) : Type 0 where
   pub stays : StaysSeated old new
   pub turn_is : turn ≡ Failed index
-  pub lacks : new.lacks ≡ old.lacks
+  pub wants_memory : new.wants_memory ≡ old.wants_memory
   pub fails : HasMade old.pass new.pass (Fail index item)
   pub met : HasMetEnd new.pass
 

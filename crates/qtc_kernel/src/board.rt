@@ -24,16 +24,16 @@ pub(crate) struct Board<F> {
 }
 
 /// Which engine a board is of. No value of it is made.
-pub(crate) struct Place<F> {
+pub(crate) struct BoardKey<F> {
     marker: PhantomData<F>,
     pub ghost parts: { EngineParts F },
 }
 
-impl<F> Model for Place<F> {
+impl<F> Model for BoardKey<F> {
     ghost also_owns = { λ _. ftrue };
 }
 
-impl<F> Names<Place<F>> for Brand {
+impl<F> Names<BoardKey<F>> for Brand {
     ghost use Rattle.std.specs.Prelude.{false};
     ghost use Rattle.qtc_kernel.specs.EngineParts.{no_parts};
 
@@ -45,13 +45,13 @@ impl<F> Names<Place<F>> for Brand {
 impl<F: ItemFn> Keyed for Board<F> {
     ghost use Rattle.qtc_kernel.specs.EngineParts.{IsBoard};
 
-    type Key = Place<F>;
+    type Key = BoardKey<F>;
 
-    ghost fits = { λ place board. IsBoard F.value place.parts board.tally board.pass board.all_reported };
+    ghost fits = { λ key board. IsBoard F.value key.parts board.tally board.pass board.all_reported };
 }
 
 /// A lock over the board of an engine of these parts. Err is want of memory.
-pub(crate) fn placed<F: ItemFn, J: Names<Place<F>>>(
+pub(crate) fn board_lock<F: ItemFn, J: Names<BoardKey<F>>>(
     alloc: Global,
     board: Board<F>,
     counter: &Counter,
@@ -62,7 +62,7 @@ pub(crate) fn placed<F: ItemFn, J: Names<Place<F>>>(
     sizes: &List<u32>,
 ) -> Result<KeyLock<Board<F>>, NoMemory>
     requires named { J.named ≡ true }
-    requires place { J.key.parts
+    requires key { J.key.parts
         ≡ parts_with counter.now future.now active.now items.now functions.now.items sizes.now }
     requires fits { IsBoard F.value J.key.parts board.tally board.pass board.all_reported }
     ensures { IfOk result (λ lock. lock.key.parts

@@ -19,8 +19,8 @@ pub struct Desk<F> {
     pub(crate) pass: Pass<Bytes>,
     pub(crate) badge: Badge,
     pub(crate) function: F,
-    pub(crate) turn: usize,
-    pub(crate) lacks: bool,
+    pub(crate) next_size: usize,
+    pub(crate) wants_memory: bool,
 }
 
 impl<F> Model for Desk<F> {
@@ -53,8 +53,8 @@ pub(crate) fn desks_of<F: Drop>(
             pass: passes.remove(0),
             badge: badges.remove(0),
             function: functions.remove(0),
-            turn: 0,
-            lacks: false,
+            next_size: 0,
+            wants_memory: false,
         });
     }
     Ok(desks)

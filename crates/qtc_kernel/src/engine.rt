@@ -3,9 +3,9 @@ ghost use Rattle.std.specs.Prelude.{◌≡◌, ◌&&◌, not, nat_lt, true, fals
 ghost use Rattle.qtc_kernel.specs.EngineParts.{IsDesk, IsEngineOf, IsPlanned, IsSameButLooks, plan_terms};
 ghost use Rattle.qtc_kernel.specs.Turns.{MayStart};
 
-use crate::beginning::{Opened, open_future};
-use crate::board::{Board, placed};
+use crate::board::{Board, board_lock};
 use crate::desk::desks_of;
+use crate::new_future::{Opened, open_future};
 use crate::{Desk, Kind, Plan};
 use qtc_active::ActiveCount;
 use qtc_base::{Bytes, Items, List, NoMemory};
@@ -89,7 +89,7 @@ impl<'a, F: ItemFn + Drop, G: Gate> Engine<'a, F, G> {
             all_reported: true,
             marker: PhantomData,
         };
-        let board = placed::<F, Brand>(
+        let board = board_lock::<F, Brand>(
             alloc, board, &counter, &future, &active, items, &functions, &blocks,
         )?;
         let desks = desks_of(alloc, seats, passes, badges, functions)?;

@@ -8,19 +8,19 @@
 //! `IsDesk`.
 #![tactic(auto)]
 
-mod beginning;
 mod blocks;
 mod board;
 mod claim_laws;
-mod closing;
+mod close;
 mod desk;
 mod engine;
-mod finishing;
-mod handing;
+mod finish;
 mod kinds;
 mod laws;
+mod new_future;
 mod plan;
-mod stepping;
+mod reports;
+mod steps;
 #[cfg(test)]
 mod tests;
 mod turn;
@@ -28,7 +28,7 @@ mod turn;
 pub use claim_laws::{desks_are_worked_out, reports_meet_claims};
 pub use desk::Desk;
 pub use engine::Engine;
-pub use finishing::Finished;
+pub use finish::Finished;
 pub use kinds::Kind;
 pub use laws::{
     accepted_batches_are_right, failures_are_bad_items, futures_are_legal,

@@ -18,7 +18,7 @@ use Rattle.qtc_kernel.specs.EngineParts.{EngineParts}
 use Rattle.qtc_kernel.specs.Driving.{is_filter}
 use Rattle.qtc_kernel.specs.WorkedOut.{IsWorkedOut, IsOpenedAndFinished as IsOpened}
 use Rattle.qtc_kernel.specs.Workload.{Suits, Workload, kept_texts, workload}
-use Rattle.qtc_kernel.specs.declared.finishing.Finished.{Finished}
+use Rattle.qtc_kernel.specs.declared.finish.Finished.{Finished}
 use Rattle.qtc_kernel.specs.declared.kinds.Kind.{Kind}
 use Rattle.qtc_ops.specs.ItemValue.{ItemValue, kept, dropped, bad}
 use Rattle.qtc_ops.specs.Maps.{map_value}

@@ -88,8 +88,8 @@ FailuresAreOfItemsThatFail = (job : Job) (items : List (List ℕ)) (failure : Fa
 abbrev pub is_inside : ℕ → ℕ × ℕ → Bool
 is_inside number block = nat_lt block.0 number && nat_lt number block.1
 
--- each number below n is one begin, or lies behind the begin of one block, and no other number is a begin: so the begins, sorted,
--- start with 0 and strictly ascend; and as many blocks end at a number below n as begin there
+-- each number below n is one begin, or lies behind the begin of one block, and no other number is a begin: so the begins,
+-- sorted, start with 0 and strictly ascend; and as many blocks end at a number below n as begin there
 pub record GoFromBeginToBegin (n : ℕ) (begins : List ℕ) (blocks : List (ℕ × ℕ)) : Type 0 where
   pub each : (number : ℕ) → number < n → times_called begins number + count_by (is_inside number) blocks ≡ 1
   pub first : 1 ≤ n → times_called begins 0 ≡ 1

@@ -5,7 +5,7 @@ use Rattle.qtc_kernel.specs.EngineParts.{EngineParts, DeskState, IsDesk, work_of
 use Rattle.qtc_kernel.specs.Driving.{AreSizes}
 use Rattle.qtc_kernel.specs.WorkedOut.{IsWorkedOut}
 use Rattle.qtc_kernel.specs.Workload.{Workload}
-use Rattle.qtc_kernel.specs.declared.finishing.Finished.{Finished}
+use Rattle.qtc_kernel.specs.declared.finish.Finished.{Finished}
 use Rattle.qtc_ops.specs.ItemValue.{ItemValue}
 use Rattle.qtc_shared.specs.Journals.{flags_at}
 use Rattle.qtc_shared.specs.Parts.{Terms}

@@ -1,7 +1,7 @@
 use Rattle.std.proofs.Common.{◌∷◌, List, drop, subst}
 use Rattle.std.specs.Vec.Iter.{into_iter_items}
 use Rattle.qtc_kernel.specs.EngineParts.{EngineParts}
-use Rattle.qtc_kernel.specs.declared.finishing.Finished.{Finished}
+use Rattle.qtc_kernel.specs.declared.finish.Finished.{Finished}
 use Rattle.qtc_run.specs.Pairing.{EachPair}
 use Rattle.qtc_run.specs.Rounds.{HasDone, IsEngineFor, IsReportFor}
 use Rattle.qtc_run.specs.declared.rounds.RoundJob.{RoundJob}

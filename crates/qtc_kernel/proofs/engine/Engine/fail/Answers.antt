@@ -38,10 +38,10 @@ returns-clause-desk g c =
     let failing = subst (λ it. IsFailedCall work calls (record { index = c.args.index; item = it })) item bad in
     let made : HasCalled old mid (Fail c.args.index) c.in-Ok.item = record { journal = hold.journal; met = hold.met; future = hold.done.future; pass = hold.pass } in
     desk_leaves value called parts _ _ c.args.piece leaving
-    (record { of = refl; badge = refl; number = refl; given = refl; on = goes_further old mid new (called_on old mid (Fail c.args.index) c.in-Ok.item made refl) (stayed_on mid new c.gather.ensures.pass); same_value = refl; turn = refl })
-    (subst (All (IsOwnCall work c.desk.inside.lacks calls)) (sym (stayed_own mid new c.gather.ensures.pass))
-    (called_own old mid (Fail c.args.index) c.in-Ok.item made (IsOwnCall work c.desk.inside.lacks calls) leaving.own
-    (λ logged call is. own_fail work c.desk.inside.lacks calls c.args.index c.in-Ok.item logged failing call is)))
+    (record { of = refl; badge = refl; number = refl; given = refl; on = goes_further old mid new (called_on old mid (Fail c.args.index) c.in-Ok.item made refl) (stayed_on mid new c.gather.ensures.pass); same_value = refl; next_size = refl })
+    (subst (All (IsOwnCall work c.desk.inside.wants_memory calls)) (sym (stayed_own mid new c.gather.ensures.pass))
+    (called_own old mid (Fail c.args.index) c.in-Ok.item made (IsOwnCall work c.desk.inside.wants_memory calls) leaving.own
+    (λ logged call is. own_fail work c.desk.inside.wants_memory calls c.args.index c.in-Ok.item logged failing call is)))
     refl c.gather.ensures.left
 
 pub returns-clause-turn : goal.returns-clause-turn
@@ -63,7 +63,7 @@ returns-clause-turn g c =
     inl (record {
       stays = record { seat = ap (λ d. d.seat) c.desk.view_is; number = ap (λ (p : PassState (List ℕ)). p.number) (c.gather.ensures.pass.pass) ∙ ap (λ (p : PassState (List ℕ)). p.number) hold.pass ∙ ap (λ d. d.pass.number) c.desk.view_is; function = ap (λ d. d.function) c.desk.view_is; looks = ap (λ (p : PassState (List ℕ)). p.looks) c.gather.ensures.pass.pass ∙ ap (λ (p : PassState (List ℕ)). p.looks) hold.pass ∙ ap (λ d. d.pass.looks) c.desk.view_is; badge = ap (λ d. d.badge) c.desk.view_is };
       turn_is = refl;
-      lacks = ap (λ d. d.lacks) c.desk.view_is;
+      wants_memory = ap (λ d. d.wants_memory) c.desk.view_is;
       fails = subst (λ p. HasMade p new (AskFail c.args.index (item_at work c.args.index))) (ap (λ d. d.pass) c.desk.view_is) (subst (λ it. HasMade old new (AskFail c.args.index it)) (sym item) fails);
       met = knows_met new c.gather.ensures.left.ended;
     })

@@ -53,7 +53,7 @@ prove-unreachable-requires g c =
       | else-has_ended w ↦
           ended_or value called parts fits first others pass.known c.settle-pass.result.has_ended c.settle-pass.ensures.settled count
           c.work_off.ensures.first c.work_off.ensures.others c.work_off.ensures.met c.work_off.ensures.over
-          (c.none_lacks-had_memory.ensures.first c.if-not-had_memory.false) (c.none_lacks-had_memory.ensures.others c.if-not-had_memory.false)
+          (c.none_wants-had_memory.ensures.first c.if-not-had_memory.false) (c.none_wants-had_memory.ensures.others c.if-not-had_memory.false)
           calls (λ index. ap (λ list. times_called list index) (are ∙ ap (calls_of called) (c.settle-pass.ensures.functions c.if-not-has_room.false ∙ ap (λ fs. fs ++ functions_at (others ++ first ∷ [])) c.new-functions.ensures.items)) ∙ calls_turned value called parts first others index)
           c.is_canceled-is_canceled.result (look.2 ∙ look_canceled c.known_is_kept.ensures pass c.is_canceled-is_canceled.new.pass look.0 look.1 c.settle-pass.ensures.pass.1)
           w.if-has_ended.false (sym w.prove-is ∙ c.if-prove.true)
@@ -75,7 +75,7 @@ returns-clause-worked g c =
     subst (λ journal. IsWorkedOut (work_of value parts) parts.sizes parts.future.terms journal calls) (sym (ap (λ (p : PassState (List ℕ)). p.known) c.is_canceled-is_canceled.ensures.1.pass))
     (worked_out value called parts fits first others c.settle-pass.result.pass.known c.settle-pass.result.has_ended c.settle-pass.ensures.settled count
     c.work_off.ensures.first c.work_off.ensures.others c.work_off.ensures.met c.work_off.ensures.over
-    (c.none_lacks-had_memory.ensures.first c.if-not-had_memory.false) (c.none_lacks-had_memory.ensures.others c.if-not-had_memory.false)
+    (c.none_wants-had_memory.ensures.first c.if-not-had_memory.false) (c.none_wants-had_memory.ensures.others c.if-not-had_memory.false)
     calls (λ index. ap (λ list. times_called list index) (are ∙ ap (calls_of called) (c.settle-pass.ensures.functions c.if-not-has_room.false ∙ ap (λ fs. fs ++ functions_at (others ++ first ∷ [])) c.new-functions.ensures.items)) ∙ calls_turned value called parts first others index))
 
 pub returns-clause-functions : goal.returns-clause-functions
@@ -87,6 +87,6 @@ returns-clause-functions g c =
 
 pub returns-clause-memory : goal.returns-clause-memory
 returns-clause-memory g c =
-    none_wanted c.args.desks.items c.pop.new.self.items c.work_off.new.others.items c.pop.result c.unwrap-first.result c.pop.ensures.items c.unwrap-first.ensures c.work_off.ensures.lack
-    (c.none_lacks-had_memory.ensures.others c.if-not-had_memory.false)
-    (c.work_off.ensures.lacks (c.none_lacks-had_memory.ensures.first c.if-not-had_memory.false))
+    none_wanted c.args.desks.items c.pop.new.self.items c.work_off.new.others.items c.pop.result c.unwrap-first.result c.pop.ensures.items c.unwrap-first.ensures c.work_off.ensures.want_memory
+    (c.none_wants-had_memory.ensures.others c.if-not-had_memory.false)
+    (c.work_off.ensures.wants_memory (c.none_wants-had_memory.ensures.first c.if-not-had_memory.false))

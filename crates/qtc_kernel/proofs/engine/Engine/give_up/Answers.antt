@@ -30,11 +30,11 @@ returns-clause-desk g c =
     let calls = called c.desk.inside.function in
     let made : HasCalled old mid Cancel [] = record { journal = hold.journal; met = hold.met; future = hold.done.future; pass = hold.pass } in
     let before : All (IsOwnCall work true calls) (calls_by old.number old.known) =
-    All-weaker (IsOwnCall work c.desk.inside.lacks calls) (IsOwnCall work true calls)
-    (λ logged. own_more work c.desk.inside.lacks true calls calls logged (λ lacks. refl) (λ index. omega arith)) (calls_by old.number old.known) leaving.own
+    All-weaker (IsOwnCall work c.desk.inside.wants_memory calls) (IsOwnCall work true calls)
+    (λ logged. own_more work c.desk.inside.wants_memory true calls calls logged (λ wants_memory. refl) (λ index. omega arith)) (calls_by old.number old.known) leaving.own
     in
     desk_leaves value called parts _ _ c.args.piece leaving
-    (record { of = refl; badge = refl; number = refl; given = refl; on = goes_further old mid new (called_on old mid Cancel [] made refl) (stayed_on mid new c.gather.ensures.pass); same_value = refl; turn = refl })
+    (record { of = refl; badge = refl; number = refl; given = refl; on = goes_further old mid new (called_on old mid Cancel [] made refl) (stayed_on mid new c.gather.ensures.pass); same_value = refl; next_size = refl })
     (subst (All (IsOwnCall work true calls)) (sym (stayed_own mid new c.gather.ensures.pass))
     (called_own old mid Cancel [] made (IsOwnCall work true calls) before (λ logged call item. own_cancel work calls logged call)))
     refl c.gather.ensures.left
@@ -49,7 +49,7 @@ returns-clause-turn g c =
     record {
       stays = record { seat = ap (λ d. d.seat) c.desk.view_is; number = ap (λ (p : PassState (List ℕ)). p.number) (c.gather.ensures.pass.pass) ∙ ap (λ (p : PassState (List ℕ)). p.number) hold.pass ∙ ap (λ d. d.pass.number) c.desk.view_is; function = ap (λ d. d.function) c.desk.view_is; looks = ap (λ (p : PassState (List ℕ)). p.looks) c.gather.ensures.pass.pass ∙ ap (λ (p : PassState (List ℕ)). p.looks) hold.pass ∙ ap (λ d. d.pass.looks) c.desk.view_is; badge = ap (λ d. d.badge) c.desk.view_is };
       turn_is = refl;
-      lacks = refl;
+      wants_memory = refl;
       cancels = subst (λ p. HasMade p new AskCancel) (ap (λ d. d.pass) c.desk.view_is) cancels;
       met = knows_met new c.gather.ensures.left.ended;
     }

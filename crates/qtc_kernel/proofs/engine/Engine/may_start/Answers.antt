@@ -19,7 +19,7 @@ returns-clause-desk g c =
     (ap (λ (w : Worker). w.number) seat.load ∙ ap (λ d. d.seat.worker.number) is)
     (ap (λ (w : Worker). w.claims) seat.load ∙ ap (λ d. d.seat.worker.claims) is)
     (subst (λ p. HasLooked p c.is_canceled-is_canceled.new.pass) (ap (λ d. d.pass) is) (looked_once c.desk.inside.pass c.is_canceled-is_canceled.new.pass pass.0 pass.1))
-    (ap (λ b. b.of) c.count-active.ensures.load ∙ ap (λ d. d.badge.of) is) (ap (λ d. d.function) is) (ap (λ d. d.turn) is) (ap (λ d. d.lacks) is)
+    (ap (λ b. b.of) c.count-active.ensures.load ∙ ap (λ d. d.badge.of) is) (ap (λ d. d.function) is) (ap (λ d. d.next_size) is) (ap (λ d. d.wants_memory) is)
 
 pub returns-clause-may_start : goal.returns-clause-may_start
 returns-clause-may_start g c =

@@ -19,7 +19,7 @@ returns-clause-desk g c =
     let called = g.F.ItemFn.called in
     let desk = subst (IsDesk value called c.args.self.now) (sym c.desk.view_is) c.requires.desk in
     desk_on value called c.args.self.now _ _ desk
-    (record { of = refl; badge = refl; number = refl; given = refl; on = stayed_on c.desk.inside.pass c.meet.new.other c.meet.ensures.other; same_value = refl; turn = refl })
+    (record { of = refl; badge = refl; number = refl; given = refl; on = stayed_on c.desk.inside.pass c.meet.new.other c.meet.ensures.other; same_value = refl; next_size = refl })
     (stayed_own c.desk.inside.pass c.meet.new.other c.meet.ensures.other) refl refl
 
 pub returns-clause-met : goal.returns-clause-met

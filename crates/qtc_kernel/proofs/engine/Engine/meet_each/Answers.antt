@@ -18,7 +18,7 @@ loop-at-preserved g c =
       own = met.own ∙ was.own;
       count = search rules;
       functions = map-set_same (λ d. d.function) desks c.loop-at.at c.meet_desk.new.desk c.index_mut.result.now (met.function ∙ ap (λ d. d.function) c.index_mut.ensures.value) ∙ was.functions;
-      lacks = map-set_same (λ d. d.lacks) desks c.loop-at.at c.meet_desk.new.desk c.index_mut.result.now (met.lacks ∙ ap (λ d. d.lacks) c.index_mut.ensures.value) ∙ was.lacks;
+      wants_memory = map-set_same (λ d. d.wants_memory) desks c.loop-at.at c.meet_desk.new.desk c.index_mut.result.now (met.wants_memory ∙ ap (λ d. d.wants_memory) c.index_mut.ensures.value) ∙ was.wants_memory;
       desks = All-set (IsDesk g.F.ItemFn.value g.F.ItemFn.called c.args.self.now) desks c.loop-at.at c.meet_desk.new.desk met.desk was.desks;
       met = AllWithin-more_set desks c.loop-at.at c.meet_desk.new.desk less (IsMet c.meet_desk.new.pass.known)
           (λ k d low high. met_further _ c.loop-at.pass c.meet_desk.new.pass met.pass (was.met k d low high)) met.met;

@@ -12,7 +12,7 @@ invariant-loop-at g l = record {
   own : calls_by l.pass.number l.pass.known ≡ calls_by l.fn.pass.number l.fn.pass.known;
   count : length l.desks.items ≡ length l.fn.desks.items;
   functions : functions_at l.desks.items ≡ functions_at l.fn.desks.items;
-  lacks : wants_at l.desks.items ≡ wants_at l.fn.desks.items;
+  wants_memory : wants_at l.desks.items ≡ wants_at l.fn.desks.items;
   desks : All (IsDesk g.F.ItemFn.value g.F.ItemFn.called l.self) l.desks.items;
   met : AllWithin (IsMet l.pass.known) l.desks.items 0 l.at;
   end : l.at-end ≡ length l.desks.items;

@@ -4,8 +4,8 @@ use Rattle.qtc_kernel.specs.EngineParts.{FitTogether}
 use Rattle.qtc_kernel.proofs.Opening.{made_board, made_engine, made_fits}
 use Rattle.qtc_kernel.proofs.engine.Engine.new.Goals as goal
 
-pub placed-requires-clause-fits : goal.placed-requires-clause-fits
-placed-requires-clause-fits g c κs within =
+pub board_lock-requires-clause-fits : goal.board_lock-requires-clause-fits
+board_lock-requires-clause-fits g c κs within =
     let plan = c.args.plan in
     made_board g.F.ItemFn.value g.F.ItemFn.called plan.kind plan.items.now plan.workers plan.blocks c.args.functions.items c.requires plan.cancel_after plan.suspend_after
     c.in_ok-future.field-0.future c.in_ok-future.field-0.passes.items c.in_ok-future.field-0.reporter c.in_ok-future.field-0.caller c.in_ok-future.ensures

@@ -17,7 +17,7 @@ returns-in_default-clause-desk g c =
     let desk = subst (IsDesk value called parts) (sym c.desk.view_is) c.requires.desk in
     let counter : c.self.inside.counter ≡ parts.counter = c.self.invariant.counter ∙ ap (λ it. it.counter) c.self.view_is in
     found_nothing value called parts fits _ desk _ c.meets_end.ensures.looked (c.in_default.ensures.of ∙ counter) refl refl refl _
-    (subst (λ (id : CounterId). ClaimsNone id.n (slice_index c.as_slice.result.now c.desk.inside.turn) c.desk.inside.seat.worker c.claim.new.seat.worker) counter c.in_default.ensures.none) refl
+    (subst (λ (id : CounterId). ClaimsNone id.n (slice_index c.as_slice.result.now c.desk.inside.next_size) c.desk.inside.seat.worker c.claim.new.seat.worker) counter c.in_default.ensures.none) refl
 
 pub work_on-requires-after_bounds : goal.work_on-requires-after_bounds
 work_on-requires-after_bounds g c κs within =
@@ -28,11 +28,11 @@ work_on-requires-after_bounds g c κs within =
     let desk = subst (IsDesk value called parts) (sym c.desk.view_is) c.requires.desk in
     let counter : c.self.inside.counter ≡ parts.counter = c.self.invariant.counter ∙ ap (λ it. it.counter) c.self.view_is in
     let sizes : c.self.inside.sizes ≡ parts.sizes = c.self.invariant.sizes ∙ ap (λ it. it.sizes) c.self.view_is in
-    let claim : ClaimsPiece parts.counter (slice_index parts.sizes c.desk.inside.turn) c.desk.inside.seat.worker c.claim.new.seat.worker c.in-Some.piece =
-    subst (λ (s : List ℕ). ClaimsPiece parts.counter (slice_index s c.desk.inside.turn) c.desk.inside.seat.worker c.claim.new.seat.worker c.in-Some.piece) (c.as_slice.ensures ∙ sizes)
-    (subst (λ (id : CounterId). ClaimsPiece id (slice_index c.as_slice.result.now c.desk.inside.turn) c.desk.inside.seat.worker c.claim.new.seat.worker c.in-Some.piece) counter c.in-Some.ensures.piece)
+    let claim : ClaimsPiece parts.counter (slice_index parts.sizes c.desk.inside.next_size) c.desk.inside.seat.worker c.claim.new.seat.worker c.in-Some.piece =
+    subst (λ (s : List ℕ). ClaimsPiece parts.counter (slice_index s c.desk.inside.next_size) c.desk.inside.seat.worker c.claim.new.seat.worker c.in-Some.piece) (c.as_slice.ensures ∙ sizes)
+    (subst (λ (id : CounterId). ClaimsPiece id (slice_index c.as_slice.result.now c.desk.inside.next_size) c.desk.inside.seat.worker c.claim.new.seat.worker c.in-Some.piece) counter c.in-Some.ensures.piece)
     in
-    let turn = c.next_turn-desk-inside.ensures ∙ ap (λ len. cond (nat_lt (c.desk.inside.turn + 1) len) (c.desk.inside.turn + 1) 0) (c.len.ensures ∙ ap length sizes) in
+    let turn = c.place_after-desk-inside.ensures ∙ ap (λ len. cond (nat_lt (c.desk.inside.next_size + 1) len) (c.desk.inside.next_size + 1) 0) (c.len.ensures ∙ ap length sizes) in
     at_work value called parts fits _ desk _ c.meets_end.ensures.looked (c.in-Some.ensures.of ∙ counter) refl refl refl c.in-Some.piece claim (c.meets_end.ensures.going c.if-meets_end.false) turn
 
 pub returns-clause-turn : goal.returns-clause-turn
@@ -44,20 +44,20 @@ returns-clause-turn g c =
     let desk = subst (IsDesk value called parts) (sym c.desk.view_is) c.requires.desk in
     let counter : c.self.inside.counter ≡ parts.counter = c.self.invariant.counter ∙ ap (λ it. it.counter) c.self.view_is in
     let sizes : c.self.inside.sizes ≡ parts.sizes = c.self.invariant.sizes ∙ ap (λ it. it.sizes) c.self.view_is in
-    let claim : ClaimsPiece parts.counter (slice_index parts.sizes c.desk.inside.turn) c.desk.inside.seat.worker c.claim.new.seat.worker c.in-Some.piece =
-    subst (λ (s : List ℕ). ClaimsPiece parts.counter (slice_index s c.desk.inside.turn) c.desk.inside.seat.worker c.claim.new.seat.worker c.in-Some.piece) (c.as_slice.ensures ∙ sizes)
-    (subst (λ (id : CounterId). ClaimsPiece id (slice_index c.as_slice.result.now c.desk.inside.turn) c.desk.inside.seat.worker c.claim.new.seat.worker c.in-Some.piece) counter c.in-Some.ensures.piece)
+    let claim : ClaimsPiece parts.counter (slice_index parts.sizes c.desk.inside.next_size) c.desk.inside.seat.worker c.claim.new.seat.worker c.in-Some.piece =
+    subst (λ (s : List ℕ). ClaimsPiece parts.counter (slice_index s c.desk.inside.next_size) c.desk.inside.seat.worker c.claim.new.seat.worker c.in-Some.piece) (c.as_slice.ensures ∙ sizes)
+    (subst (λ (id : CounterId). ClaimsPiece id (slice_index c.as_slice.result.now c.desk.inside.next_size) c.desk.inside.seat.worker c.claim.new.seat.worker c.in-Some.piece) counter c.in-Some.ensures.piece)
     in
-    let turn = c.next_turn-desk-inside.ensures ∙ ap (λ len. cond (nat_lt (c.desk.inside.turn + 1) len) (c.desk.inside.turn + 1) 0) (c.len.ensures ∙ ap length sizes) in
+    let turn = c.place_after-desk-inside.ensures ∙ ap (λ len. cond (nat_lt (c.desk.inside.next_size + 1) len) (c.desk.inside.next_size + 1) 0) (c.len.ensures ∙ ap length sizes) in
     subst (λ old. IsTurn value called parts old c.work_on.new.desk c.work_on.result) c.desk.view_is
     (turn_told value called parts fits _ desk
     (record {
       seat = c.claim.new.seat;
       pass = c.meets_end.new.pass;
       function = c.desk.inside.function;
-      turn = c.next_turn-desk-inside.result;
+      next_size = c.place_after-desk-inside.result;
       badge = c.desk.inside.badge;
-      lacks = c.desk.inside.lacks;
+      wants_memory = c.desk.inside.wants_memory;
     })
     c.meets_end.ensures.looked (c.in-Some.ensures.of ∙ counter) refl refl refl c.in-Some.piece claim (c.meets_end.ensures.going c.if-meets_end.false) turn
     c.work_on.new.desk c.work_on.result (c.meets_end.ensures.free c.if-meets_end.false) c.work_on.ensures.stays.looks c.work_on.ensures.stays.seat c.work_on.ensures.turn)

@@ -1,6 +1,6 @@
 use Rattle.std.proofs.Common.{◌≡◌, true, rules, sym, ◌∙◌}
 use Rattle.qtc_kernel.specs.Turns.{goes_on}
-use Rattle.qtc_kernel.proofs.Turning.{continues_by, lacks_did}
+use Rattle.qtc_kernel.proofs.Turning.{continues_by, wants_did}
 use Rattle.qtc_kernel.proofs.engine.Engine.work.Goals as goal
 
 pub loop-preserved : goal.loop-preserved
@@ -15,7 +15,7 @@ loop-preserved g c =
       is_in = told.out ∙ did;
       number = told.number ∙ was.number;
       function = continues_by g.F.ItemFn.value g.F.ItemFn.called c.args.self.now c.args.desk.now c.loop.desk c.step-turn.new.desk c.step-turn.result c.requires.desk told.desk was.function told.turn;
-      lacks = told.lacks ∙ lacks_did c.loop.desk.lacks c.step-turn.result did ∙ was.lacks;
+      wants_memory = told.wants_memory ∙ wants_did c.loop.desk.wants_memory c.step-turn.result did ∙ was.wants_memory;
     }
 
 pub returns-then-not-is_did-clause-function : goal.returns-then-not-is_did-clause-function

@@ -12,5 +12,5 @@ invariant-loop g l = record {
   is_in : l.desk.badge.is_in ≡ true;
   number : l.desk.pass.number ≡ l.fn.desk.pass.number;
   function : Continues g.F.ItemFn.value g.F.ItemFn.called l.fn.desk.function l.desk.function;
-  lacks : l.desk.lacks ≡ l.fn.desk.lacks;
+  wants_memory : l.desk.wants_memory ≡ l.fn.desk.wants_memory;
 }

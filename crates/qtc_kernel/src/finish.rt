@@ -28,7 +28,7 @@ impl<'a, F: ItemFn, G: Gate> Engine<'a, F, G> {
         ensures pass { GoesOn pass.old pass.new }
         ensures own { calls_by pass.new.number pass.new.known ≡ calls_by pass.old.number pass.old.known }
         ensures functions { functions_at desks.new.items ≡ functions_at desks.old.items }
-        ensures lacks { wants_at desks.new.items ≡ wants_at desks.old.items }
+        ensures wants_memory { wants_at desks.new.items ≡ wants_at desks.old.items }
         ensures desks { All (IsDesk F.value F.called self.now) desks.new.items }
         ensures met { All (IsMet pass.new.known) desks.new.items }
     {
@@ -45,7 +45,7 @@ impl<'a, F: ItemFn, G: Gate> Engine<'a, F, G> {
         ensures own { calls_by pass.new.number pass.new.known ≡ calls_by pass.old.number pass.old.known }
         ensures desk { IsDesk F.value F.called self.now desk.new }
         ensures function { desk.new.function ≡ desk.old.function }
-        ensures lacks { desk.new.lacks ≡ desk.old.lacks }
+        ensures wants_memory { desk.new.wants_memory ≡ desk.old.wants_memory }
         ensures met { IsMet pass.new.known desk.new }
     {
         self.future.meet(rt, pass, &mut desk.pass);
@@ -89,9 +89,9 @@ impl<'a, F: ItemFn + Drop, G: Gate> Engine<'a, F, G> {
             seat,
             pass: mut own,
             function,
-            turn: _,
+            next_size: _,
             badge: _,
-            lacks: _,
+            wants_memory: _,
         } = desk;
         self.future.meet(rt, pass, &mut own);
         tally.gather_seat(&self.counter, seat);
@@ -133,8 +133,8 @@ impl<'a, F: ItemFn + Drop, G: Gate> Engine<'a, F, G> {
         ensures met { All (IsMet first.new.pass.known) others.new.items }
         ensures function { Continues F.value F.called first.old.function first.new.function }
         ensures functions { functions_at others.new.items ≡ functions_at others.old.items }
-        ensures lacks { first.new.lacks ≡ false → first.old.lacks ≡ false }
-        ensures lack { wants_at others.new.items ≡ wants_at others.old.items }
+        ensures wants_memory { first.new.wants_memory ≡ false → first.old.wants_memory ≡ false }
+        ensures want_memory { wants_at others.new.items ≡ wants_at others.old.items }
         ensures over { (self.now.counter.n ≤ first.new.seat.worker.seen) ⊎ HasMetEnd first.new.pass }
     {
         self.enter(first);
@@ -166,9 +166,9 @@ impl<'a, F: ItemFn + Drop, G: Gate> Engine<'a, F, G> {
             seat,
             mut pass,
             function,
-            turn: _,
+            next_size: _,
             badge: _,
-            lacks: _,
+            wants_memory: _,
         } = first;
         self.future.finish(rt, &mut pass);
         self.future.meet(rt, &mut pass, &mut board.pass);
@@ -199,7 +199,7 @@ impl<'a, F: ItemFn + Drop, G: Gate> Engine<'a, F, G> {
         ensures pass { IfOk result (λ done. (done.pass.of ≡ self.now.future)
             × IsTrue (flags_at done.pass.known).finished) }
         ensures childless { IfOk result (λ done. done.pass.children ≡ 0) }
-        ensures memory { IfOk result (λ done. All (λ desk. desk.lacks ≡ false) desks.items) }
+        ensures memory { IfOk result (λ done. All (λ desk. desk.wants_memory ≡ false) desks.items) }
         ensures worked { IfOk result (λ done. IsWorkedOut (work_of F.value self.now) self.now.sizes
             self.now.future.terms done.pass.known done.calls) }
         ensures functions { IfOk result (λ done.
@@ -210,7 +210,7 @@ impl<'a, F: ItemFn + Drop, G: Gate> Engine<'a, F, G> {
         let _ = &self.workers;
         let mut first = desks.pop().unwrap();
         self.work_off(rt, &mut first, &mut desks);
-        let had_memory = none_lacks(&first, &desks);
+        let had_memory = none_wants(&first, &desks);
         let (mut board, hold) = self.board.take(rt);
         let mut functions = Vec::new(alloc);
         let Settled {
@@ -257,11 +257,11 @@ fn keep<F: Drop>(functions: &mut Vec<F>, has_room: &mut bool, function: F)
 }
 
 // Whether no worker wanted memory.
-fn none_lacks<F>(first: &Desk<F>, others: &Vec<Desk<F>>) -> bool
-    ensures first { IsTrue result → first.now.lacks ≡ false }
-    ensures others { IsTrue result → All (λ desk. desk.lacks ≡ false) others.now.items }
+fn none_wants<F>(first: &Desk<F>, others: &Vec<Desk<F>>) -> bool
+    ensures first { IsTrue result → first.now.wants_memory ≡ false }
+    ensures others { IsTrue result → All (λ desk. desk.wants_memory ≡ false) others.now.items }
 {
-    !first.lacks && others.iter().all(|desk| !desk.lacks)
+    !first.wants_memory && others.iter().all(|desk| !desk.wants_memory)
 }
 
 // The calls of these functions, one after the other.

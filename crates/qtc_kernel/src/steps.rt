@@ -2,7 +2,7 @@
 ghost use Rattle.std.specs.Prelude.{◌≡◌, ◌+◌, ◌<◌, ◌⊎◌, true, false, None, Some, IsTrue, cond, nat_lt};
 ghost use Rattle.qtc_events.specs.Flags.{flags_in};
 ghost use Rattle.qtc_kernel.specs.EngineParts.{HasMetEnd, IsDesk, IsFailedCall, shows_end, work_of};
-ghost use Rattle.qtc_kernel.specs.Turns.{IsLastTurn, IsTurn, LooksEnded, LooksFree, goes_on, lacks_after};
+ghost use Rattle.qtc_kernel.specs.Turns.{IsLastTurn, IsTurn, LooksEnded, LooksFree, goes_on, wants_after};
 ghost use Rattle.qtc_kernel.specs.WorkedOut.{Continues};
 ghost use Rattle.qtc_kernel.specs.Working.{FailsOrWants, HasGivenUp, HasLooked, IsAtWork, IsLeaving, IsWorked, StaysAtWork, is_waiting, range_in};
 ghost use Rattle.qtc_kernel.specs.Workload.{item_at};
@@ -31,12 +31,12 @@ fn is_to_wait(flags: Flags) -> bool
     (flags.is_suspending() || flags.is_suspended()) && !ended(flags)
 }
 
-// The place after `turn` in a list of so many, over and over.
-fn next_turn(turn: usize, len: usize) -> usize
-    requires { turn < len }
-    ensures { result ≡ cond (nat_lt (turn + 1) len) (turn + 1) 0 }
+// The place after this one in a list of so many, over and over.
+fn place_after(at: usize, len: usize) -> usize
+    requires { at < len }
+    ensures { result ≡ cond (nat_lt (at + 1) len) (at + 1) 0 }
 {
-    if turn + 1 < len { turn + 1 } else { 0 }
+    if at + 1 < len { at + 1 } else { 0 }
 }
 
 fn is_did(turn: Turn) -> bool
@@ -61,7 +61,7 @@ impl<'a, F: ItemFn, G: Gate> Engine<'a, F, G> {
         ensures number { desk.new.pass.number ≡ desk.old.pass.number }
         ensures turn { IsTurn F.value F.called self.now desk.old desk.new result }
         ensures out { desk.new.badge.is_in ≡ goes_on result }
-        ensures lacks { desk.new.lacks ≡ lacks_after desk.old.lacks result }
+        ensures wants_memory { desk.new.wants_memory ≡ wants_after desk.old.wants_memory result }
     {
         let turn = self.turn(rt, desk);
         if !is_did(turn) {
@@ -78,7 +78,7 @@ impl<'a, F: ItemFn, G: Gate> Engine<'a, F, G> {
         ensures function { Continues F.value F.called desk.old.function desk.new.function }
         ensures turn { IsLastTurn F.value F.called self.now desk.old desk.new result }
         ensures out { desk.new.badge.is_in ≡ false }
-        ensures lacks { desk.new.lacks ≡ lacks_after desk.old.lacks result }
+        ensures wants_memory { desk.new.wants_memory ≡ wants_after desk.old.wants_memory result }
     {
         for _ in rt.forever() {
             let turn = self.step(rt, desk);
@@ -105,16 +105,16 @@ impl<'a, F: ItemFn, G: Gate> Engine<'a, F, G> {
         ensures number { desk.new.pass.number ≡ desk.old.pass.number }
         ensures turn { IsTurn F.value F.called self.now desk.old desk.new result }
         ensures badge { desk.new.badge ≡ desk.old.badge }
-        ensures lacks { desk.new.lacks ≡ lacks_after desk.old.lacks result }
+        ensures wants_memory { desk.new.wants_memory ≡ wants_after desk.old.wants_memory result }
     {
         if self.meets_end(rt, &mut desk.pass) {
             return Turn::SawCanceled;
         }
-        let size = self.sizes.as_slice()[desk.turn];
+        let size = self.sizes.as_slice()[desk.next_size];
         let Some(piece) = self.counter.claim(&mut desk.seat, size) else {
             return Turn::Exhausted;
         };
-        desk.turn = next_turn(desk.turn, self.sizes.len());
+        desk.next_size = place_after(desk.next_size, self.sizes.len());
         self.work_on(rt, desk, piece)
     }
 
@@ -185,7 +185,7 @@ impl<'a, F: ItemFn, G: Gate> Engine<'a, F, G> {
     {
         self.future.cancel(rt, &mut desk.pass);
         self.gather(rt, &mut desk.pass, piece);
-        desk.lacks = true;
+        desk.wants_memory = true;
         Turn::Memory
     }
 }

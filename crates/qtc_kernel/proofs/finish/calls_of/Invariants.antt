@@ -1,6 +1,6 @@
 use Rattle.std.proofs.Common.{◌≡◌, take}
 use Rattle.qtc_kernel.specs.WorkedOut.{calls_of}
-use Rattle.qtc_kernel.proofs.finishing.calls_of.Given as goal
+use Rattle.qtc_kernel.proofs.finish.calls_of.Given as goal
 
 abbrev pub invariant-loop-function : goal.invariant-loop-function
 invariant-loop-function g l =

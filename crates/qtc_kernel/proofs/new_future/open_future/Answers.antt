@@ -5,7 +5,7 @@ use Rattle.qtc_future.specs.Steps.{Effect, step}
 use Rattle.qtc_future.specs.declared.requests.Request.TheVariants.{Start}
 use Rattle.qtc_kernel.specs.Driving.{is_filter}
 use Rattle.qtc_kernel.proofs.Opening.{future_opens, start_opens}
-use Rattle.qtc_kernel.proofs.beginning.open_future.Goals as goal
+use Rattle.qtc_kernel.proofs.new_future.open_future.Goals as goal
 
 pub returns : goal.returns
 returns c =

@@ -1,8 +1,10 @@
 #!/usr/bin/env python3
 """Makes job files at random, and compares what `./qtc check` says of each with what docs/JOB_FILES.md says.
 
-By hand: tools/random_jobs.py [COUNT [SEED]], at the top of the repository. It reads the language anew, from that page
-alone, and shares nothing with the program. It prints its seed, and the first file on which the two differ.
+    tools/random_jobs.py [COUNT [SEED]]
+
+At the top of the repository; the gate runs 300 files of one seed. It reads the language anew, from that page alone, and shares
+nothing with the program. It prints its seed, and the first file on which the two differ.
 """
 import os
 import random

@@ -23,7 +23,6 @@ LONGER = {
     "crates/qtc_job/specs/Codes.antt": 1,
     "crates/qtc_job/specs/Literals.antt": 1,
     "crates/qtc_job/specs/Readers.antt": 3,
-    "crates/qtc_kernel/src/engine.rt": 1,
     "crates/qtc_outside/src/file_texts.rt": 1,
     "crates/qtc_outside/src/loading.rt": 1,
     "crates/qtc_outside/src/mem_texts.rt": 1,

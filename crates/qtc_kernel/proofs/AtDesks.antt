@@ -14,7 +14,10 @@ use Rattle.qtc_ops.specs.ItemValue.{ItemValue}
 use Rattle.qtc_shared.specs.Journals.{calls_by}
 use Rattle.qtc_shared.specs.Passes.{PassState}
 use Rattle.qtc_shared.proofs.Prefixes.{begins_further}
-use Rattle.qtc_kernel.specs.EngineParts.{AreHandedIn, AreOwnCalls, AreWorkedOn, EngineParts, DeskState, IsDesk, IsFailedCall, IsLeft, IsOwnCall, IsSeated, given_at, is_own, opening, reporter, work_of}
+use Rattle.qtc_kernel.specs.EngineParts.{AreHandedIn, AreOwnCalls, AreWorkedOn, EngineParts, DeskState, IsDesk, IsFailedCall, IsLeft, IsOwnCall, IsSeated, given_at, reporter, work_of}
+use Rattle.qtc_shared.specs.Parts.{Terms}
+use Rattle.qtc_kernel.specs.OwnPasses.{desk_makes, opening}
+use Rattle.qtc_kernel.specs.declared.kinds.Kind.{Kind}
 use Rattle.qtc_kernel.specs.Driving.{in_turn}
 use Rattle.qtc_kernel.specs.Endings.{IsMet}
 use Rattle.qtc_kernel.specs.Runs.{times_called}
@@ -25,17 +28,17 @@ use Rattle.qtc_kernel.proofs.Counting.{calls-append, calls-range, covers, times-
 use Rattle.qtc_kernel.proofs.Passing.{handed_on, knows_met, left_on, looked_on, looked_own, looked_same}
 
 -- what was its own call is, where more was called and memory was wanted
-pub own_more : (work : Workload) (wants_memory wants_memory' : Bool) (calls calls' : List ℕ) (logged : Logged (List ℕ)) → (wants_memory ≡ true → wants_memory' ≡ true) → ((index : ℕ) → times_called calls index ≤ times_called calls' index)
-    → IsOwnCall work wants_memory calls logged → IsOwnCall work wants_memory' calls' logged
-own_more work wants_memory wants_memory' calls calls' logged wants more is = record {
+pub own_more : (kind : Kind) (terms : Terms) (work : Workload) (wants_memory wants_memory' : Bool) (calls calls' : List ℕ) (logged : Logged (List ℕ)) → (wants_memory ≡ true → wants_memory' ≡ true) → ((index : ℕ) → times_called calls index ≤ times_called calls' index)
+    → IsOwnCall kind terms work wants_memory calls logged → IsOwnCall kind terms work wants_memory' calls' logged
+own_more kind terms work wants_memory wants_memory' calls calls' logged wants more is = record {
   own = is.own;
   fails = λ index call. let failed = is.fails index call in let some = failed.called in let all = more index in record { failing = failed.failing; called = omega arith };
   cancels = λ call. wants (is.cancels call);
 }
 
-pub own_cancel : (work : Workload) (calls : List ℕ) (logged : Logged (List ℕ)) → logged.entry.call ≡ Cancel → IsOwnCall work true calls logged
-own_cancel work calls logged is = record {
-  own = ap is_own is;
+pub own_cancel : (kind : Kind) (terms : Terms) (work : Workload) (calls : List ℕ) (logged : Logged (List ℕ)) → logged.entry.call ≡ Cancel → IsOwnCall kind terms work true calls logged
+own_cancel kind terms work calls logged is = record {
+  own = ap (desk_makes kind terms) is;
   fails = λ index fails. absurd (not_fail index (sym is ∙ fails));
   cancels = λ call. refl;
 }
@@ -43,9 +46,9 @@ own_cancel work calls logged is = record {
     not_fail : (index : ℕ) → Cancel ≡ Fail index → ⊥
     not_fail index e = absurd (cc)
 
-pub own_fail : (work : Workload) (wants_memory : Bool) (calls : List ℕ) (index : ℕ) (item : List ℕ) (logged : Logged (List ℕ)) → IsFailedCall work calls (record { index = index; item = item }) → logged.entry.call ≡ Fail index → logged.item ≡ item → IsOwnCall work wants_memory calls logged
-own_fail work wants_memory calls index item logged failed call_is item_is = record {
-  own = ap is_own call_is;
+pub own_fail : (kind : Kind) (terms : Terms) (work : Workload) (wants_memory : Bool) (calls : List ℕ) (index : ℕ) (item : List ℕ) (logged : Logged (List ℕ)) → IsFailedCall work calls (record { index = index; item = item }) → logged.entry.call ≡ Fail index → logged.item ≡ item → IsOwnCall kind terms work wants_memory calls logged
+own_fail kind terms work wants_memory calls index item logged failed call_is item_is = record {
+  own = ap (desk_makes kind terms) call_is;
   fails = λ other fails.
       subst (λ i. IsFailedCall work calls (record { index = i; item = logged.item })) (same_index index other (sym call_is ∙ fails))
       (subst (λ it. IsFailedCall work calls (record { index = index; item = it })) (sym item_is) failed);
@@ -87,9 +90,9 @@ module _ {F : Type 0} (value : F → List ℕ → ItemValue) (called : F → Lis
   pub own_on : (old new : DeskState F) → AreOwnCalls value called parts old → calls_by new.pass.number new.pass.known ≡ calls_by old.pass.number old.pass.known → new.wants_memory ≡ old.wants_memory
       → ((index : ℕ) → times_called (called old.function) index ≤ times_called (called new.function) index) → AreOwnCalls value called parts new
   own_on old new own same wants_memory more =
-      subst (All (IsOwnCall (work_of value parts) new.wants_memory (called new.function))) (sym same)
-      (All-weaker (IsOwnCall (work_of value parts) old.wants_memory (called old.function)) (IsOwnCall (work_of value parts) new.wants_memory (called new.function))
-      (λ logged. own_more (work_of value parts) old.wants_memory new.wants_memory (called old.function) (called new.function) logged (λ is. wants_memory ∙ is) more) (calls_by old.pass.number old.pass.known) own)
+      subst (All (IsOwnCall parts.kind parts.future.terms (work_of value parts) new.wants_memory (called new.function))) (sym same)
+      (All-weaker (IsOwnCall parts.kind parts.future.terms (work_of value parts) old.wants_memory (called old.function)) (IsOwnCall parts.kind parts.future.terms (work_of value parts) new.wants_memory (called new.function))
+      (λ logged. own_more parts.kind parts.future.terms (work_of value parts) old.wants_memory new.wants_memory (called old.function) (called new.function) logged (λ is. wants_memory ∙ is) more) (calls_by old.pass.number old.pass.known) own)
 
   -- a desk that called nothing more
   pub desk_on : (old new : DeskState F) → IsDesk value called parts old → Follows old new
@@ -100,12 +103,14 @@ module _ {F : Type 0} (value : F → List ℕ → ItemValue) (called : F → Lis
     own = own_on old new desk.own own wants_memory (λ index. let is : times_called (called new.function) index ≡ times_called (called old.function) index = ap (λ list. times_called list index) calls in omega (arith, is));
     left = desk.left;
     one = desk.one;
-    left_are = All-weaker (IsLeft parts.counter.n (reporter parts) old.pass) (IsLeft parts.counter.n (reporter parts) new.pass) (left_on parts.counter.n (reporter parts) old.pass new.pass follows.on) desk.left desk.left_are;
     worked =
         subst (λ given. AreWorkedOn parts.counter.n given desk.left (called new.function)) (sym follows.given)
         (subst (AreWorkedOn parts.counter.n (given_at parts.counter.n old) desk.left) (sym calls) desk.worked);
-    handed = subst (λ given. AreHandedIn parts.counter.n (reporter parts) given new.pass) (sym follows.given)
-        (handed_on parts.counter.n (reporter parts) (given_at parts.counter.n old) old.pass new.pass follows.on desk.handed);
+    board = record {
+      left_are = All-weaker (IsLeft parts.counter.n (reporter parts) old.pass) (IsLeft parts.counter.n (reporter parts) new.pass) (left_on parts.counter.n (reporter parts) old.pass new.pass follows.on) desk.left desk.board.left_are;
+      handed = subst (λ given. AreHandedIn parts.counter.n (reporter parts) given new.pass) (sym follows.given)
+          (handed_on parts.counter.n (reporter parts) (given_at parts.counter.n old) old.pass new.pass follows.on desk.board.handed);
+    };
   }
 
   -- it has looked, and is in or out
@@ -132,11 +137,13 @@ module _ {F : Type 0} (value : F → List ℕ → ItemValue) (called : F → Lis
     own = own;
     left = piece.addition ∷ [];
     one = omega arith;
-    left_are = All-cons (IsLeft parts.counter.n (reporter parts) new.pass) piece.addition [] left (All-nil (IsLeft parts.counter.n (reporter parts) new.pass));
     worked =
         subst (λ given. AreWorkedOn parts.counter.n given (piece.addition ∷ []) (called new.function)) (sym follows.given)
         (subst (AreWorkedOn parts.counter.n (given_at parts.counter.n old) (piece.addition ∷ [])) (sym calls) leaving.part);
-    handed = inr (inl (knows_met new.pass left.ended));
+    board = record {
+      left_are = All-cons (IsLeft parts.counter.n (reporter parts) new.pass) piece.addition [] left (All-nil (IsLeft parts.counter.n (reporter parts) new.pass));
+      handed = inr (inl (knows_met new.pass left.ended));
+    };
   }
 
 -- ---- what was called

@@ -104,10 +104,12 @@ module _ {F : Type 0} (value : F → List ℕ → ItemValue) (called : F → Lis
     own = own_more_called (indexes_of (range_in parts piece)) calls;
     left = [];
     one = omega arith;
-    left_are = All-nil (IsLeft parts.counter.n (reporter parts) new.pass);
     worked = subst (λ claims. AreWorkedOn parts.counter.n claims [] (called new.function)) (sym given)
         (whole_called parts.counter.n h.claims piece.addition (called old.function) (called new.function) h.worked (range_whole parts.counter.n piece.addition).0 calls);
-    handed = subst (λ claims. AreHandedIn parts.counter.n (reporter parts) claims new.pass) (sym given) (handed_more handed_in is);
+    board = record {
+      left_are = All-nil (IsLeft parts.counter.n (reporter parts) new.pass);
+      handed = subst (λ claims. AreHandedIn parts.counter.n (reporter parts) claims new.pass) (sym given) (handed_more handed_in is);
+    };
   }
 
 -- ---- what becomes of the piece

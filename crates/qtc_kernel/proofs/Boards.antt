@@ -26,7 +26,10 @@ use Rattle.qtc_shared.specs.Journals.{BeginsWith, calls_by, flags_at}
 use Rattle.qtc_shared.specs.Parts.{future_at}
 use Rattle.qtc_shared.specs.Passes.{IsHold, Meets, PassState, Stays, is_accepted}
 use Rattle.qtc_shared.proofs.Prefixes.{begins_further, saw_begins}
-use Rattle.qtc_kernel.specs.EngineParts.{EngineParts, IsBoard, FitTogether, IsLeft, IsOfPiece, KnowsEnd, is_report, is_strange, opening, ranges_by, reporter, shows_end, work_of}
+use Rattle.qtc_events.specs.declared.calls.Call.TheVariants.{Report, Cancel}
+use Rattle.qtc_kernel.specs.OwnPasses.{opening}
+use Rattle.qtc_kernel.proofs.OwnPasses.{plain_drops, unreported}
+use Rattle.qtc_kernel.specs.EngineParts.{EngineParts, HasBoard, IsBoard, IsBoardCall, FitTogether, IsLeft, IsOfPiece, KnowsEnd, is_report, is_strange, ranges_by, reporter, shows_end, work_of}
 use Rattle.qtc_kernel.specs.Runs.{IsBlock, range_of}
 use Rattle.qtc_kernel.specs.Working.{IsHandedIn, IsPieceOf, is_drop, range_in}
 use Rattle.qtc_kernel.specs.Workload.{Workload, first_bad, size_of, texts_in}
@@ -143,7 +146,7 @@ module _ {F : Type 0} (value : F → List ℕ → ItemValue) (parts : EnginePart
         number = number ∙ board.number;
         childless = ap (λ (p : PassState (List ℕ)). p.children) is ∙ board.childless;
         opened = begins_further opening pass.known pass'.known board.opened (subst (λ k. BeginsWith k pass.known) (sym known) (saw_begins pass.known journal pass.seen met.saw));
-        reports = subst (All (IsOfPiece (work_of value parts) parts.counter.n parts.sizes tally.pieces)) (sym own) board.reports;
+        reports = subst (All (IsBoardCall parts.future.terms false (work_of value parts) parts.counter.n parts.sizes tally.pieces)) (sym own) board.reports;
         mark = subst (λ ranges. Marks on ranges tally.pieces) (sym same) board.mark;
       }
 
@@ -151,8 +154,8 @@ module _ {F : Type 0} (value : F → List ℕ → ItemValue) (parts : EnginePart
   board_stays tally pass pass' on board hold = board_met tally pass pass' on hold.journal board hold.met (ap (λ (f : Future (List ℕ)). f.calls) hold.done) hold.pass
 
   -- more pieces are gathered
-  of_pieces_more : (pieces more : List Addition) (logged : Logged (List ℕ)) → IsOfPiece (work_of value parts) parts.counter.n parts.sizes pieces logged → IsOfPiece (work_of value parts) parts.counter.n parts.sizes (pieces ++ more) logged
-  of_pieces_more pieces more logged is = record {
+  of_piece_more : (pieces more : List Addition) (logged : Logged (List ℕ)) → IsOfPiece (work_of value parts) parts.counter.n parts.sizes pieces logged → IsOfPiece (work_of value parts) parts.counter.n parts.sizes (pieces ++ more) logged
+  of_piece_more pieces more logged is = record {
     batch = is.batch;
     reports = is.reports;
     texts = is.texts;
@@ -161,10 +164,17 @@ module _ {F : Type 0} (value : F → List ℕ → ItemValue) (parts : EnginePart
     gathered = subst (λ ranges. Contains ranges (range_of is.batch)) (sym (map-append (clipped parts.counter.n) pieces more)) (Contains-append_left (map (clipped parts.counter.n) pieces) (map (clipped parts.counter.n) more) (range_of is.batch) is.gathered);
   }
 
-  pub reports_more : (pieces pieces' more : List Addition) (calls : Journal) → pieces' ≡ pieces ++ more → All (IsOfPiece (work_of value parts) parts.counter.n parts.sizes pieces) calls → All (IsOfPiece (work_of value parts) parts.counter.n parts.sizes pieces') calls
+  of_pieces_more : (pieces more : List Addition) (logged : Logged (List ℕ)) → IsBoardCall parts.future.terms false (work_of value parts) parts.counter.n parts.sizes pieces logged → IsBoardCall parts.future.terms false (work_of value parts) parts.counter.n parts.sizes (pieces ++ more) logged
+  of_pieces_more pieces more logged is = record {
+    own = is.own;
+    reports = λ report. of_piece_more pieces more logged (is.reports report);
+    cancels = is.cancels;
+  }
+
+  pub reports_more : (pieces pieces' more : List Addition) (calls : Journal) → pieces' ≡ pieces ++ more → All (IsBoardCall parts.future.terms false (work_of value parts) parts.counter.n parts.sizes pieces) calls → All (IsBoardCall parts.future.terms false (work_of value parts) parts.counter.n parts.sizes pieces') calls
   reports_more pieces pieces' more calls are all =
-      subst (λ (them : List Addition). All (IsOfPiece (work_of value parts) parts.counter.n parts.sizes them) calls) (sym are)
-      (All-weaker (IsOfPiece (work_of value parts) parts.counter.n parts.sizes pieces) (IsOfPiece (work_of value parts) parts.counter.n parts.sizes (pieces ++ more)) (of_pieces_more pieces more) calls all)
+      subst (λ (them : List Addition). All (IsBoardCall parts.future.terms false (work_of value parts) parts.counter.n parts.sizes them) calls) (sym are)
+      (All-weaker (IsBoardCall parts.future.terms false (work_of value parts) parts.counter.n parts.sizes pieces) (IsBoardCall parts.future.terms false (work_of value parts) parts.counter.n parts.sizes (pieces ++ more)) (of_pieces_more pieces more) calls all)
 
   -- seats are gathered
   pub board_seats : (tally tally' : TallyState) (pass : PassState (List ℕ)) (on : Bool) → IsBoard value parts tally pass on → tally'.of ≡ tally.of → tally'.pieces ≡ tally.pieces → IsBoard value parts tally' pass on
@@ -174,19 +184,24 @@ module _ {F : Type 0} (value : F → List ℕ → ItemValue) (parts : EnginePart
     number = board.number;
     childless = board.childless;
     opened = board.opened;
-    reports = subst (λ (all : List Addition). All (IsOfPiece (work_of value parts) parts.counter.n parts.sizes all) (calls_by pass.number pass.known)) (sym pieces) board.reports;
+    reports = subst (λ (all : List Addition). All (IsBoardCall parts.future.terms false (work_of value parts) parts.counter.n parts.sizes all) (calls_by pass.number pass.known)) (sym pieces) board.reports;
     mark = subst (λ (all : List Addition). Marks on (ranges_by (reporter parts) pass.known) all) (sym pieces) board.mark;
   }
 
   -- the ranges of its reports are those of gathered pieces
-  pub reports_gathered : (pieces : List Addition) (calls : Journal) → All (IsOfPiece (work_of value parts) parts.counter.n parts.sizes pieces) calls → All (Contains (map (clipped parts.counter.n) pieces)) (map range_of (reports_of calls))
+  pub reports_gathered : (pieces : List Addition) (calls : Journal) → All (IsBoardCall parts.future.terms false (work_of value parts) parts.counter.n parts.sizes pieces) calls → All (Contains (map (clipped parts.counter.n) pieces)) (map range_of (reports_of calls))
   reports_gathered pieces [] all = All-nil (Contains (map (clipped parts.counter.n) pieces))
   reports_gathered pieces (logged ∷ calls) all =
-      let P = IsOfPiece (work_of value parts) parts.counter.n parts.sizes pieces in
+      let P = IsBoardCall parts.future.terms false (work_of value parts) parts.counter.n parts.sizes pieces in
       let Q = Contains (map (clipped parts.counter.n) pieces) in
       let first = All-head P logged calls all in
       let rest = reports_gathered pieces calls (All-tail P logged calls all) in
-      subst (λ batches. All Q (map range_of (batches ++ reports_of calls))) (sym first.reports) (All-cons Q (range_of first.batch) (map range_of (reports_of calls)) first.gathered rest)
+      elim (is_report logged.entry.call) as (λ b. is_report logged.entry.call ≡ b → All Q (map range_of (reports_of (logged ∷ calls)))) [
+        | true ↦ λ e.
+            let piece = first.reports e in
+            subst (λ batches. All Q (map range_of (batches ++ reports_of calls))) (sym piece.reports) (All-cons Q (range_of piece.batch) (map range_of (reports_of calls)) piece.gathered rest)
+        | false ↦ λ e. subst (λ batches. All Q (map range_of (batches ++ reports_of calls))) (sym (unreported logged.entry.call logged.values e)) rest
+      ] refl
 
 -- a piece that is gathered meets none that was gathered before
 pub not_both : (counter : CounterId) (tally tally' : TallyState) (piece : Addition) → tally' ≡ record tally { pieces = tally.pieces ++ piece ∷ [] } → IsGathered counter tally' → (index : ℕ) → (clipped counter.n piece).0 ≤ index → index < (clipped counter.n piece).1
@@ -281,7 +296,7 @@ handed_ok number first later range (Err e) begins handed = tt
 
 -- ---- a report
 
-module _ {F : Type 0} (value : F → List ℕ → ItemValue) (parts : EngineParts F) (fits : FitTogether value parts) (piece : Addition) (below : piece.begin < parts.counter.n) (some : 1 ≤ piece.size) (listed : Contains parts.sizes piece.size)
+module _ {F : Type 0} (value : F → List ℕ → ItemValue) (parts : EngineParts F) (fits : FitTogether value parts) (has : HasBoard parts) (piece : Addition) (below : piece.begin < parts.counter.n) (some : 1 ≤ piece.size) (listed : Contains parts.sizes piece.size)
     (range : ℕ × ℕ) (range_is : range ≡ clipped parts.counter.n piece) (good : first_bad (work_of value parts) range ≡ None) where
   abbrev work : Workload
   work = work_of value parts
@@ -312,7 +327,7 @@ module _ {F : Type 0} (value : F → List ℕ → ItemValue) (parts : EnginePart
   values_few = let p = part in let some = p.some in texts-most work range.0 range.1 (omega arith) p.within
 
   pub values_whole : parts.future.terms.filter ≡ false → length (texts_in work range) ≡ range.1 - range.0
-  values_whole plain = let p = part in let some = p.some in texts-whole work range.0 range.1 (omega arith) p.within (fits.suits plain) good
+  values_whole plain = let p = part in let some = p.some in texts-whole work range.0 range.1 (omega arith) p.within (fits.suits (plain_drops parts.kind has.plain ∙ sym fits.filter ∙ plain)) good
 
   module _ (tally tally' : TallyState) (pass pass' : PassState (List ℕ)) (journal : Journal) (on : Bool) (board : IsBoard value parts tally pass on) (tally_is : tally' ≡ record tally { pieces = tally.pieces ++ piece ∷ [] }) (gathered : IsGathered parts.counter tally')
       (met : Meets pass journal) (pass_is : pass' ≡ record pass { known = pass'.known; seen = [] }) where
@@ -334,8 +349,8 @@ module _ {F : Type 0} (value : F → List ℕ → ItemValue) (parts : EnginePart
     ranges_are : map (clipped parts.counter.n) tally'.pieces ≡ map (clipped parts.counter.n) tally.pieces ++ clipped parts.counter.n piece ∷ []
     ranges_are = ap (map (clipped parts.counter.n)) pieces_are ∙ map-append (clipped parts.counter.n) tally.pieces (piece ∷ [])
 
-    logged_is : IsOfPiece work parts.counter.n parts.sizes tally'.pieces logged
-    logged_is = record {
+    logged_of : IsOfPiece work parts.counter.n parts.sizes tally'.pieces logged
+    logged_of = record {
       batch = batch;
       reports = refl;
       texts = ap (texts_in work) (sym batch_is);
@@ -344,6 +359,12 @@ module _ {F : Type 0} (value : F → List ℕ → ItemValue) (parts : EnginePart
       gathered = subst (λ ranges. Contains ranges (range_of batch)) (sym ranges_are)
           (subst (λ r. Contains (map (clipped parts.counter.n) tally.pieces ++ r ∷ []) (range_of batch)) (batch_is ∙ range_is) (Contains-push (map (clipped parts.counter.n) tally.pieces) (range_of batch)));
     }
+
+    logged_is : IsBoardCall parts.future.terms false work parts.counter.n parts.sizes tally'.pieces logged
+    logged_is = record { own = refl; reports = λ report. logged_of; cancels = λ e. absurd (not_cancel _ _ _ e) }
+      where
+        not_cancel : (begin kept total : ℕ) → Report begin kept total ≡ Cancel → ⊥
+        not_cancel begin kept total e = absurd (cc)
 
     -- a piece that is reported as it is gathered leaves the mark
     marks_more : (old : List (ℕ × ℕ)) → Marks value parts on old tally.pieces → Marks value parts on (old ++ range ∷ []) (tally.pieces ++ piece ∷ [])
@@ -360,7 +381,7 @@ module _ {F : Type 0} (value : F → List ℕ → ItemValue) (parts : EnginePart
     -- the board where the report was logged
     board_logged : pass'.known ≡ journal ++ logged ∷ [] → IsBoard value parts tally' pass' on
     board_logged known =
-        let P = IsOfPiece work parts.counter.n parts.sizes tally'.pieces in
+        let P = IsBoardCall parts.future.terms false work parts.counter.n parts.sizes tally'.pieces in
         let number : pass'.number ≡ pass.number = ap (λ (p : PassState (List ℕ)). p.number) pass_is in
         let own : calls_by pass'.number pass'.known ≡ calls_by pass.number pass.known ++ logged ∷ [] =
         ap (λ k. calls_by k pass'.known) number ∙ ap (calls_by pass.number) known ∙ calls_by-append pass.number journal (logged ∷ [])
@@ -469,14 +490,14 @@ batch_is_in job range begin end values bounds values_are =
     let last : end ≡ range.1 = ap (λ (r : ℕ × ℕ). r.1) bounds in
     λ i. batch_with (first i) (values_are i) (last i - first i)
 
-module _ {F : Type 0} (value : F → List ℕ → ItemValue) (parts : EngineParts F) (fits : FitTogether value parts) (piece : PieceState) (is : IsPieceOf parts piece) (begin end : ℕ) (values : List (List ℕ)) (bounds : (begin, end) ≡ clipped piece.of.n piece.addition)
+module _ {F : Type 0} (value : F → List ℕ → ItemValue) (parts : EngineParts F) (fits : FitTogether value parts) (has : HasBoard parts) (piece : PieceState) (is : IsPieceOf parts piece) (begin end : ℕ) (values : List (List ℕ)) (bounds : (begin, end) ≡ clipped piece.of.n piece.addition)
     (values_are : values ≡ texts_in (work_of value parts) (range_in parts piece)) (good : first_bad (work_of value parts) (range_in parts piece) ≡ None) where
   bounds_are : (begin, end) ≡ range_in parts piece
   bounds_are = bounds ∙ ap (λ (c : CounterId). clipped c.n piece.addition) is.of
 
   pub code_few : length values ≤ end - begin
   code_few =
-      let few = values_few value parts fits piece.addition is.below is.some is.listed (range_in parts piece) refl good in
+      let few = values_few value parts fits has piece.addition is.below is.some is.listed (range_in parts piece) refl good in
       let first : begin ≡ (range_in parts piece).0 = ap (λ (r : ℕ × ℕ). r.0) bounds_are in
       let last : end ≡ (range_in parts piece).1 = ap (λ (r : ℕ × ℕ). r.1) bounds_are in
       let long : length values ≡ length (texts_in (work_of value parts) (range_in parts piece)) = ap length values_are in
@@ -484,7 +505,7 @@ module _ {F : Type 0} (value : F → List ℕ → ItemValue) (parts : EnginePart
 
   pub code_whole : parts.future.terms.filter ≡ false → length values ≡ end - begin
   code_whole plain =
-      let whole = values_whole value parts fits piece.addition is.below is.some is.listed (range_in parts piece) refl good plain in
+      let whole = values_whole value parts fits has piece.addition is.below is.some is.listed (range_in parts piece) refl good plain in
       let first : begin ≡ (range_in parts piece).0 = ap (λ (r : ℕ × ℕ). r.0) bounds_are in
       let last : end ≡ (range_in parts piece).1 = ap (λ (r : ℕ × ℕ). r.1) bounds_are in
       let long : length values ≡ length (texts_in (work_of value parts) (range_in parts piece)) = ap length values_are in
@@ -495,5 +516,5 @@ module _ {F : Type 0} (value : F → List ℕ → ItemValue) (parts : EnginePart
       → IsStep (step (future_at pass.of.terms journal) pass.number (ReportBatch begin values (end - begin))) (future_at pass.of.terms pass'.known) (told_by reply)
       → IsBoard value parts tally' pass' (on && is_accepted (told_by reply)) × IsHandedIn (reporter parts) pass'.known (range_in parts piece) (not (is_drop (told_by reply)))
   code_reports tally tally' pass pass' journal on board tally_is gathered met pass_is reply done =
-      board_reports value parts fits piece.addition is.below is.some is.listed (range_in parts piece) refl good tally tally' pass pass' journal on board tally_is gathered met pass_is reply
+      board_reports value parts fits has piece.addition is.below is.some is.listed (range_in parts piece) refl good tally tally' pass pass' journal on board tally_is gathered met pass_is reply
       (subst (λ batch. IsStep (offered (future_at pass.of.terms journal) pass.number batch) (future_at pass.of.terms pass'.known) (told_by reply)) (batch_is_in (work_of value parts) (range_in parts piece) begin end values bounds_are values_are) done)

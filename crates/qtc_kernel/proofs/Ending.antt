@@ -1,5 +1,5 @@
 -- What follows once all desks of an engine were brought in.
-use Rattle.std.proofs.Common.{◌≡◌, ◌≢◌, ◌⊎◌, ℕ, ◌+◌, ◌<◌, ◌≤◌, Bool, true, false, ◌&&◌, ◌==◌, nat_lt, nat_le, List, [], ◌∷◌, ◌++◌, Option, None, Some, All, map, fold, if◌then◌else◌, inl, inr, refl, ap, sym, ◌∙◌, subst, arith, append-nil}
+use Rattle.std.proofs.Common.{◌≡◌, ◌≢◌, ◌⊎◌, ℕ, ◌+◌, ◌<◌, ◌≤◌, Bool, true, false, ◌&&◌, ◌==◌, nat_lt, nat_le, List, [], ◌∷◌, ◌++◌, Option, None, Some, All, map, fold, if◌then◌else◌, inl, inr, refl, ap, sym, ◌∙◌, subst, arith, append-nil, not, ◌||◌, IsTrue}
 use Rattle.std.specs.Prelude.{Contains}
 use Rattle.std.specs.Option.{option_or}
 use native.Mathlib.Decide.{dec_lt}
@@ -8,8 +8,8 @@ use Rattle.std.proofs.lemmas.Bool.Decides.{nat_tests}
 use Rattle.std.proofs.lemmas.List.{map-append}
 use Rattle.std.proofs.lemmas.List.Elements.{All-append, All-cons, All-head, All-map, All-nil, All-push, All-tail, All-weaker}
 use Rattle.qtc_base.specs.Ranges.{Tiles, in_range, times_covered}
-use Rattle.qtc_claim.specs.Claims.{Addition, claims_of, clipped, gave}
-use Rattle.qtc_claim.specs.Counter.{TallyState}
+use Rattle.qtc_claim.specs.Claims.{Addition, AreParts, claims_of, clipped, gave}
+use Rattle.qtc_claim.specs.Counter.{CounterId, TallyState}
 use Rattle.qtc_claim.specs.Rule.{covering}
 use Rattle.qtc_claim.proofs.Sums.{times_below, times_past}
 use Rattle.qtc_events.specs.Flags.{Standing}
@@ -29,11 +29,14 @@ use Rattle.qtc_future.specs.declared.replies.Failure.{Failure}
 use Rattle.qtc_future.proofs.Staying.{legal_store}
 use Rattle.qtc_shared.specs.Journals.{IsAllowed, IsJournal, calls_by, flags_at, is_makers}
 use Rattle.qtc_shared.specs.Parts.{Terms, future_at}
-use Rattle.qtc_kernel.specs.EngineParts.{IsFailedCall, IsOfPiece, IsOwnCall, is_own, ranges_by}
+use Rattle.qtc_kernel.specs.EngineParts.{IsBoardCall, IsFailedCall, IsOfPiece, IsOwnCall, is_report, ranges_by}
+use Rattle.qtc_kernel.specs.OwnPasses.{board_makes, desk_makes, end_makes, engine_makes, is_reduced}
+use Rattle.qtc_kernel.specs.declared.kinds.Kind.{Kind}
+use Rattle.qtc_kernel.proofs.OwnPasses.{plain_passes}
 use Rattle.qtc_kernel.specs.BroughtIn.{AreBroughtIn, DesksAreWorkedOut, IsUncovered}
 use Rattle.qtc_kernel.specs.Laws.{AreCalledOnce}
 use Rattle.qtc_kernel.specs.Runs.{HasTexts, IsBlock, range_of, reported_ranges, times_called}
-use Rattle.qtc_kernel.specs.WorkedOut.{IsOfOthers, IsWhole, IsWorkedOut}
+use Rattle.qtc_kernel.specs.WorkedOut.{IsOfEngine, IsOfOthers, IsWhole, IsWorkedOut}
 use Rattle.qtc_kernel.specs.Workload.{Workload, first_bad, is_bad, item_at, kept_texts, size_of}
 use Rattle.qtc_kernel.proofs.Counting.{covers, times-append, times-cons}
 use Rattle.qtc_kernel.proofs.Finding.{none_bad}
@@ -54,16 +57,18 @@ record IsGood (work : Workload) (n : ℕ) (sizes : List ℕ) (pieces : List Addi
   block : IsBlock n sizes (range_of batch)
   gathered : Contains (map (clipped n) pieces) (range_of batch)
 
-module _ (work : Workload) (n : ℕ) (sizes : List ℕ) (pieces : List Addition) (workers : ℕ) (called : List ℕ) where
+module _ (kind : Kind) (terms : Terms) (work : Workload) (n : ℕ) (sizes : List ℕ) (pieces : List Addition) (workers : ℕ) (called : List ℕ) where
   abbrev OfPiece : Logged (List ℕ) → Type 0
-  OfPiece logged = IsOfPiece work n sizes pieces logged
+  OfPiece logged = IsBoardCall terms false work n sizes pieces logged
 
   abbrev Own : Logged (List ℕ) → Type 0
-  Own logged = IsOwnCall work false called logged
+  Own logged = IsOwnCall kind terms work false called logged
 
-  -- the call of a pass of the engine is a report of a gathered piece, or one that a desk may make
+  -- the call of a pass of the engine is one that the board may make, or one that a desk may; of others' passes just those
+  -- that anyone may call
   pub record IsOurs (logged : Logged (List ℕ)) : Type 0 where
     pub ours : logged.entry.caller < workers + 1 → OfPiece logged ⊎ Own logged
+    pub allowed : IsAllowed (workers + 1) logged
 
   head_by : (number : ℕ) (logged : Logged (List ℕ)) (journal : Journal) → logged.entry.caller ≡ number → calls_by number (logged ∷ journal) ≡ logged ∷ calls_by number journal
   head_by number logged journal is = let same : (logged.entry.caller == number) ≡ true = grind (arith, nat_tests) in rw same refl
@@ -75,11 +80,11 @@ module _ (work : Workload) (n : ℕ) (sizes : List ℕ) (pieces : List Addition)
         | false ↦ λ h. h
       ] all
 
-  pub all_ours : (journal : Journal) → All OfPiece (calls_by workers journal) → ((number : ℕ) → number < workers → All Own (calls_by number journal)) → All IsOurs journal
-  all_ours [] board own = All-nil IsOurs
-  all_ours (logged ∷ journal) board own =
-      All-cons IsOurs logged journal (record { ours = λ below. by (dec_lt logged.entry.caller workers) below })
-      (all_ours journal (tail_by OfPiece workers logged journal board) (λ number below. tail_by Own number logged journal (own number below)))
+  pub all_ours : (journal : Journal) → All OfPiece (calls_by workers journal) → ((number : ℕ) → number < workers → All Own (calls_by number journal)) → All (IsAllowed (workers + 1)) journal → All IsOurs journal
+  all_ours [] board own allowed = All-nil IsOurs
+  all_ours (logged ∷ journal) board own allowed =
+      All-cons IsOurs logged journal (record { ours = λ below. by (dec_lt logged.entry.caller workers) below; allowed = All-head (IsAllowed (workers + 1)) logged journal allowed })
+      (all_ours journal (tail_by OfPiece workers logged journal board) (λ number below. tail_by Own number logged journal (own number below)) (All-tail (IsAllowed (workers + 1)) logged journal allowed))
     where
       by : Dec (logged.entry.caller < workers) → logged.entry.caller < workers + 1 → OfPiece logged ⊎ Own logged
       by (yes less) below = inr (All-head Own logged (calls_by logged.entry.caller journal) (subst (All Own) (head_by logged.entry.caller logged journal refl) (own logged.entry.caller less)))
@@ -88,13 +93,13 @@ module _ (work : Workload) (n : ℕ) (sizes : List ℕ) (pieces : List Addition)
   -- ---- what follows for each kind of call
 
   -- a report is of a gathered piece
-  good_batches : (logged : Logged (List ℕ)) → IsOurs logged → IsAllowed (workers + 1) logged → All (IsGood work n sizes pieces) (batches_in logged)
-  good_batches logged ours allowed = by logged.entry.call refl
+  good_batches : (logged : Logged (List ℕ)) → IsOurs logged → All (IsGood work n sizes pieces) (batches_in logged)
+  good_batches logged ours = by logged.entry.call refl
     where
       Good : Batch (List ℕ) → Type 0
       Good = IsGood work n sizes pieces
 
-      of_piece : OfPiece logged → All Good (batches_in logged)
+      of_piece : IsOfPiece work n sizes pieces logged → All Good (batches_in logged)
       of_piece is = subst (All Good) (sym is.reports) (All-cons Good is.batch [] (record { texts = is.texts; good = is.good; block = is.block; gathered = is.gathered }) (All-nil Good))
 
       none : batches_in logged ≡ [] → All Good (batches_in logged)
@@ -102,10 +107,10 @@ module _ (work : Workload) (n : ℕ) (sizes : List ℕ) (pieces : List Addition)
 
       by : (call : Call) → logged.entry.call ≡ call → All Good (batches_in logged)
       by (Report begin kept total) is =
-          let below : logged.entry.caller < workers + 1 = allowed.maker (ap is_makers is) in
+          let below : logged.entry.caller < workers + 1 = ours.allowed.maker (ap is_makers is) in
           elim (ours.ours below) [
-            | inl piece ↦ of_piece piece
-            | inr own ↦ absurd (false≢true (sym (ap is_own is) ∙ own.own))
+            | inl board ↦ of_piece (board.reports (ap is_report is))
+            | inr own ↦ absurd (false≢true (sym (ap (desk_makes kind terms) is) ∙ own.own))
           ]
       by Start is = none (ap (λ call. batch_of call logged.values) is)
       by (Account total) is = none (ap (λ call. batch_of call logged.values) is)
@@ -116,19 +121,12 @@ module _ (work : Workload) (n : ℕ) (sizes : List ℕ) (pieces : List Addition)
       by (Fail index) is = none (ap (λ call. batch_of call logged.values) is)
       by Finish is = none (ap (λ call. batch_of call logged.values) is)
 
-  all_good : (journal : Journal) → All IsOurs journal → All (IsAllowed (workers + 1)) journal → All (IsGood work n sizes pieces) (reports_of journal)
-  all_good [] ours allowed = All-nil (IsGood work n sizes pieces)
-  all_good (logged ∷ journal) ours allowed =
+  all_good : (journal : Journal) → All IsOurs journal → All (IsGood work n sizes pieces) (reports_of journal)
+  all_good [] ours = All-nil (IsGood work n sizes pieces)
+  all_good (logged ∷ journal) ours =
       All-append (IsGood work n sizes pieces) (batches_in logged) (reports_of journal)
-      (good_batches logged (All-head IsOurs logged journal ours) (All-head (IsAllowed (workers + 1)) logged journal allowed))
-      (all_good journal (All-tail IsOurs logged journal ours) (All-tail (IsAllowed (workers + 1)) logged journal allowed))
-
-  -- a call that no piece's report is and that a desk may not make isn't of the engine
-  not_piece : (logged : Logged (List ℕ)) (call : Call) → logged.entry.call ≡ call → batch_of {V = List ℕ} call logged.values ≡ [] → OfPiece logged → ⊥
-  not_piece logged call is none piece = empty (sym (sym none ∙ ap (λ c. batch_of c logged.values) (sym is) ∙ piece.reports))
-    where
-      empty : piece.batch ∷ [] ≡ [] → ⊥
-      empty e = absurd (cc)
+      (good_batches logged (All-head IsOurs logged journal ours))
+      (all_good journal (All-tail IsOurs logged journal ours))
 
   -- a cancel is of another pass
   others_cancel : (logged : Logged (List ℕ)) → IsOurs logged → IsOfOthers (workers + 1) logged
@@ -136,21 +134,21 @@ module _ (work : Workload) (n : ℕ) (sizes : List ℕ) (pieces : List Addition)
     where
       by : Dec (logged.entry.caller < workers + 1) → logged.entry.call ≡ Cancel → workers + 1 ≤ logged.entry.caller
       by (yes below) is = elim (ours.ours below) [
-        | inl piece ↦ absurd (not_piece logged Cancel is refl piece)
+        | inl board ↦ absurd (false≢true (board.cancels is))
         | inr own ↦ absurd (false≢true (own.cancels is))
       ]
       by (no past) is = omega arith
 
   -- a fail is of a bad item
-  failing_of : (logged : Logged (List ℕ)) (failure : Failure) → IsOurs logged → IsAllowed (workers + 1) logged → failure_of_call logged.entry.call logged.item ≡ Some failure → IsFailedCall work called failure
-  failing_of logged failure ours allowed e = by logged.entry.call refl e
+  failing_of : (logged : Logged (List ℕ)) (failure : Failure) → IsOurs logged → failure_of_call logged.entry.call logged.item ≡ Some failure → IsFailedCall work called failure
+  failing_of logged failure ours e = by logged.entry.call refl e
     where
       by : (call : Call) → logged.entry.call ≡ call → failure_of_call call logged.item ≡ Some failure → IsFailedCall work called failure
       by (Fail index) is e =
-          let below : logged.entry.caller < workers + 1 = allowed.maker (ap is_makers is) in
+          let below : logged.entry.caller < workers + 1 = ours.allowed.maker (ap is_makers is) in
           let same : record { index = index; item = logged.item } ≡ failure = cc in
           elim (ours.ours below) [
-            | inl piece ↦ absurd (not_piece logged (Fail index) is refl piece)
+            | inl board ↦ absurd (false≢true (sym (ap (board_makes terms) is) ∙ board.own))
             | inr own ↦ subst (IsFailedCall work called) same (own.fails index is)
           ]
       by Start is e = absurd (cc)
@@ -162,23 +160,36 @@ module _ (work : Workload) (n : ℕ) (sizes : List ℕ) (pieces : List Addition)
       by Cancel is e = absurd (cc)
       by Finish is e = absurd (cc)
 
-  all_failing : (journal : Journal) (failure : Failure) → All IsOurs journal → All (IsAllowed (workers + 1)) journal → failure_in journal ≡ Some failure → IsFailedCall work called failure
-  all_failing [] failure ours allowed e = absurd (cc)
-  all_failing (logged ∷ journal) failure ours allowed e =
-      by (failure_of_call logged.entry.call logged.item) refl e (all_failing journal failure (All-tail IsOurs logged journal ours) (All-tail (IsAllowed (workers + 1)) logged journal allowed))
+  all_failing : (journal : Journal) (failure : Failure) → All IsOurs journal → failure_in journal ≡ Some failure → IsFailedCall work called failure
+  all_failing [] failure ours e = absurd (cc)
+  all_failing (logged ∷ journal) failure ours e =
+      by (failure_of_call logged.entry.call logged.item) refl e (all_failing journal failure (All-tail IsOurs logged journal ours))
     where
       by : (o : Option Failure) → failure_of_call logged.entry.call logged.item ≡ o → option_or o (failure_in journal) ≡ Some failure → (failure_in journal ≡ Some failure → IsFailedCall work called failure) → IsFailedCall work called failure
-      by (Some first) is e rest = failing_of logged failure (All-head IsOurs logged journal ours) (All-head (IsAllowed (workers + 1)) logged journal allowed) (is ∙ e)
+      by (Some first) is e rest = failing_of logged failure (All-head IsOurs logged journal ours) (is ∙ e)
       by None is e rest = rest e
 
   -- no pass finished it
-  pub not_finish : (logged : Logged (List ℕ)) → IsOurs logged → IsAllowed (workers + 1) logged → logged.entry.call ≢ Finish
-  not_finish logged ours allowed is =
-      let below : logged.entry.caller < workers + 1 = allowed.maker (ap is_makers is) in
+  pub not_finish : (logged : Logged (List ℕ)) → IsOurs logged → logged.entry.call ≢ Finish
+  not_finish logged ours is =
+      let below : logged.entry.caller < workers + 1 = ours.allowed.maker (ap is_makers is) in
       elim (ours.ours below) [
-        | inl piece ↦ not_piece logged Finish is refl piece
-        | inr own ↦ false≢true (sym (ap is_own is) ∙ own.own)
+        | inl board ↦ false≢true (sym (ap (board_makes terms) is) ∙ board.own)
+        | inr own ↦ false≢true (sym (ap (desk_makes kind terms) is) ∙ own.own)
       ]
+
+  -- what a pass of the engine called is what such a pass makes
+  of_engine : is_reduced kind ≡ false → (logged : Logged (List ℕ)) → IsOurs logged → logged.entry.caller < workers + 1 → IsTrue (engine_makes kind terms logged.entry.call)
+  of_engine plain logged ours below = elim (ours.ours below) [
+    | inl board ↦ by_board (desk_makes kind terms logged.entry.call) (is_reduced kind) (board_makes terms logged.entry.call) (end_makes kind terms logged.entry.call) plain board.own
+    | inr own ↦ by_desk (desk_makes kind terms logged.entry.call) ((not (is_reduced kind) && board_makes terms logged.entry.call) || end_makes kind terms logged.entry.call) own.own
+  ]
+    where
+      by_desk : (a b : Bool) → a ≡ true → (a || b) ≡ true
+      by_desk a b h = grind arith
+
+      by_board : (a r b e : Bool) → r ≡ false → b ≡ true → (a || ((not r && b) || e)) ≡ true
+      by_board a r b e plain h = grind arith
 
 pub unfinished_after : (s : Standing) (call : Call) (reached : Reached) → call ≢ Finish → s.finished ≡ false → (after s call reached).finished ≡ false
 unfinished_after s Start reached other none = grind arith
@@ -290,9 +301,9 @@ going_before : (b c : Bool) → (b ≡ true → c ≡ true) → c ≡ false → 
 going_before true c h e = absurd (false≢true (sym e ∙ h refl))
 going_before false c h e = refl
 
-module _ (job : Workload) (shares : List ℕ) (terms : Terms) (journal : Journal) (tally : TallyState) (calls : List ℕ) (finish : Logged (List ℕ)) (b : AreBroughtIn job shares terms journal tally calls) (is_finish : finish.entry.call ≡ Finish) (lawful : IsJournal terms (journal ++ finish ∷ [])) where
+module _ (job : Workload) (shares : List ℕ) (kind : Kind) (terms : Terms) (journal : Journal) (counter : CounterId) (tally : TallyState) (calls : List ℕ) (finish : Logged (List ℕ)) (b : AreBroughtIn job shares kind terms journal counter tally calls) (is_finish : finish.entry.call ≡ Finish) (lawful : IsJournal terms (journal ++ finish ∷ [])) where
   abbrev m : ℕ
-  m = tally.of.n
+  m = counter.n
 
   abbrev claims : List Addition
   claims = claims_of tally.workers
@@ -303,14 +314,17 @@ module _ (job : Workload) (shares : List ℕ) (terms : Terms) (journal : Journal
   abbrev future : Future (List ℕ)
   future = future_at terms whole
 
-  allowed : All (IsAllowed (tally.of.workers + 1)) journal
-  allowed = subst (λ makers. All (IsAllowed makers) journal) b.makers (all_left (IsAllowed terms.makers) journal (finish ∷ []) lawful.allowed)
+  makers_are : terms.makers ≡ counter.workers + 1
+  makers_are = b.makers ∙ plain_passes kind counter.workers b.plain
 
-  ours : All (IsOurs job m shares tally.pieces tally.of.workers calls) journal
-  ours = all_ours job m shares tally.pieces tally.of.workers calls journal b.reports b.own
+  allowed : All (IsAllowed (counter.workers + 1)) journal
+  allowed = subst (λ makers. All (IsAllowed makers) journal) makers_are (all_left (IsAllowed terms.makers) journal (finish ∷ []) lawful.allowed)
+
+  ours : All (IsOurs kind terms job m shares tally.pieces counter.workers calls) journal
+  ours = all_ours kind terms job m shares tally.pieces counter.workers calls journal b.reports b.own allowed
 
   good : All (IsGood job m shares tally.pieces) (reports_of journal)
-  good = all_good job m shares tally.pieces tally.of.workers calls journal ours allowed
+  good = all_good kind terms job m shares tally.pieces counter.workers calls journal ours
 
   reports_are : reports_of whole ≡ reports_of journal
   reports_are =
@@ -339,6 +353,9 @@ module _ (job : Workload) (shares : List ℕ) (terms : Terms) (journal : Journal
           absurd (omega arith)
       by (no none) = omega arith
 
+  given_parts : AreParts tally.pieces b.knows.pieces.0 (gave m claims)
+  given_parts = subst (λ (c : CounterId). AreParts tally.pieces b.knows.pieces.0 (gave c.n claims)) b.of b.knows.pieces.1
+
   -- what a report covers is in no claim that was left
   none_left : (index : ℕ) (left : List Addition) → All (IsUncovered m journal) left → 1 ≤ times_covered (map range_of (reports_of journal)) index → times_covered (map (clipped m) left) index ≡ 0
   none_left index [] all some = refl
@@ -359,7 +376,7 @@ module _ (job : Workload) (shares : List ℕ) (terms : Terms) (journal : Journal
           let none = none_left index b.left b.uncovered more in
           let one = b.gathered.pieces.once_below index in
           let once = apart index in
-          let sums = b.knows.pieces.1.once (covering index) in
+          let sums = given_parts.once (covering index) in
           let pieces = times_below index m tally.pieces below in
           let given = times_below index m (gave m claims) below in
           let least = b.least index in
@@ -380,7 +397,7 @@ module _ (job : Workload) (shares : List ℕ) (terms : Terms) (journal : Journal
     each : (index : ℕ) → index < size_of job → times_covered (map range_of (reports_of journal)) index ≡ 1
     each index less =
         let one = (b.tiled going_then).once index (let is = b.indexes in omega arith) in
-        let most = times_by tally.of.workers journal index in
+        let most = times_by counter.workers journal index in
         let few = apart index in
         omega (arith, one, most, few)
 
@@ -405,7 +422,7 @@ module _ (job : Workload) (shares : List ℕ) (terms : Terms) (journal : Journal
             (λ index past. is_covered-in_order batches index ∙ none_covers batches index (ap (λ bs. times_covered (map range_of bs) index) reports_are ∙ past_none index past)) in
             subst (IsFirstResults (results_of future)) (all ∙ texts-all job) (first_results terms.filter (in_order batches) store)
 
-  pub worked_out : IsWorkedOut job shares terms whole calls
+  pub worked_out : IsWorkedOut job shares kind terms whole calls
   worked_out = record {
     lawful = lawful;
     opened = record {
@@ -426,7 +443,8 @@ module _ (job : Workload) (shares : List ℕ) (terms : Terms) (journal : Journal
         (All-map (λ range. first_bad job range ≡ None) range_of (reports_of journal) (All-weaker (IsGood job m shares tally.pieces) (λ batch. first_bad job (range_of batch) ≡ None) (λ batch is. is.good) (reports_of journal) good));
     failing = λ failure e. (failed failure e).failing;
     failed_call = λ failure e. let some = (failed failure e).called in let most = once.once failure.index in omega (arith, some, most);
-    canceled = subst (λ makers. All (IsOfOthers makers) whole) (sym b.makers) others;
+    own = own;
+    canceled = subst (λ makers. All (IsOfOthers makers) whole) (sym makers_are) others;
     whole = is_whole;
   }
     where
@@ -438,13 +456,23 @@ module _ (job : Workload) (shares : List ℕ) (terms : Terms) (journal : Journal
           by None = ap (λ call. failure_of_call call finish.item) is_finish
 
       failed : (failure : Failure) → failure_in whole ≡ Some failure → IsFailedCall job calls failure
-      failed failure e = all_failing job m shares tally.pieces tally.of.workers calls journal failure ours allowed (failure_before failure e)
+      failed failure e = all_failing kind terms job m shares tally.pieces counter.workers calls journal failure ours (failure_before failure e)
 
-      others : All (IsOfOthers (tally.of.workers + 1)) whole
+      others : All (IsOfOthers (counter.workers + 1)) whole
       others =
-          All-push (IsOfOthers (tally.of.workers + 1)) journal finish
-          (All-weaker (IsOurs job m shares tally.pieces tally.of.workers calls) (IsOfOthers (tally.of.workers + 1)) (others_cancel job m shares tally.pieces tally.of.workers calls) journal ours)
+          All-push (IsOfOthers (counter.workers + 1)) journal finish
+          (All-weaker (IsOurs kind terms job m shares tally.pieces counter.workers calls) (IsOfOthers (counter.workers + 1)) (others_cancel kind terms job m shares tally.pieces counter.workers calls) journal ours)
           (record { others = λ is. absurd (not_cancel (sym is ∙ is_finish)) })
 
+      own : All (IsOfEngine kind terms) whole
+      own =
+          All-push (IsOfEngine kind terms) journal finish
+          (All-weaker (IsOurs kind terms job m shares tally.pieces counter.workers calls) (IsOfEngine kind terms)
+          (λ logged ours. record { own = λ below. of_engine kind terms job m shares tally.pieces counter.workers calls b.plain logged ours (subst (λ makers. logged.entry.caller < makers) makers_are below) }) journal ours)
+          (record { own = λ below. subst (λ call. IsTrue (engine_makes kind terms call)) (sym is_finish) (by_end (desk_makes kind terms Finish) (not (is_reduced kind) && board_makes terms Finish)) })
+        where
+          by_end : (a b : Bool) → (a || (b || true)) ≡ true
+          by_end a b = grind arith
+
 pub desks_are_worked_out : DesksAreWorkedOut
-desks_are_worked_out work sizes terms journal tally calls finish b is_finish lawful = worked_out work sizes terms journal tally calls finish b is_finish lawful
+desks_are_worked_out work sizes kind terms journal counter tally calls finish b is_finish lawful = worked_out work sizes kind terms journal counter tally calls finish b is_finish lawful

@@ -1,3 +1,4 @@
+pub mod OwnPasses
 pub mod Counting
 pub mod Finding
 pub mod Counted

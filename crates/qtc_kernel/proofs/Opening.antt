@@ -20,9 +20,9 @@ use Rattle.qtc_shared.specs.Journals.{BeginsWith, calls_by}
 use Rattle.qtc_shared.specs.Parts.{Terms}
 use Rattle.qtc_shared.specs.Passes.{FutureId, IsShared, PassState, pass_at}
 use Rattle.qtc_shared.proofs.Prefixes.{begins_same}
-use Rattle.qtc_kernel.specs.EngineParts.{EngineParts, AreReported, DeskState, IsBoard, FitTogether, IsDesk, IsEngineOf, IsLeft, IsNewDesk, IsOfPiece, IsOpened, IsOwnCall, IsPlanned, parts_with, desks_with, opening, plan_terms, ranges_by, reporter, value_by, work_of}
-use Rattle.qtc_kernel.specs.Driving.{is_filter, own_entry}
-use Rattle.qtc_kernel.specs.Workload.{Suits}
+use Rattle.qtc_kernel.specs.OwnPasses.{is_filter, is_reduced, opening, own_entry, own_passes, plan_terms}
+use Rattle.qtc_kernel.proofs.OwnPasses.{plain_passes}
+use Rattle.qtc_kernel.specs.EngineParts.{EngineParts, AreReported, DeskState, IsBoard, FitTogether, IsDesk, IsEngineOf, IsLeft, IsNewDesk, HasBoard, IsBoardCall, IsOpened, IsOwnCall, IsPlanned, parts_with, desks_with, ranges_by, reporter, value_by, work_of}
 use Rattle.qtc_kernel.specs.declared.kinds.Kind.{Kind}
 
 -- ---- the start
@@ -68,7 +68,7 @@ popped_length all left taken x is taken_is = ap length (is ∙ ap (λ o. left ++
 
 -- ---- the future
 
-module _ (kind : Kind) (cancel_after suspend_after workers : ℕ) (core : Future (List ℕ)) (core_is : core ≡ opened_with (is_filter kind) cancel_after suspend_after)
+module _ (kind : Kind) (plain : is_reduced kind ≡ false) (cancel_after suspend_after workers : ℕ) (core : Future (List ℕ)) (core_is : core ≡ opened_with (is_filter kind) cancel_after suspend_after)
     (future : FutureId) (all : List (PassState (List ℕ))) (shared : IsShared core (workers + 1) (workers + 2) future all)
     (first : List (PassState (List ℕ))) (taken : Option (PassState (List ℕ))) (caller : PassState (List ℕ)) (all_are : all ≡ first ++ option_to_list taken) (taken_is : taken ≡ Some caller)
     (left : List (PassState (List ℕ))) (taken' : Option (PassState (List ℕ))) (reporting : PassState (List ℕ)) (first_are : first ≡ left ++ option_to_list taken') (taken'_is : taken' ≡ Some reporting) where
@@ -89,11 +89,12 @@ module _ (kind : Kind) (cancel_after suspend_after workers : ℕ) (core : Future
 
   pub future_opens : IsOpened (plan_terms kind cancel_after suspend_after workers) workers future left reporting caller
   future_opens = record {
-    terms_are = shared.terms ∙ ap (λ (f : Future (List ℕ)). record { filter = f.filter; thresholds = f.thresholds; makers = workers + 1 }) core_is;
+    terms_are = shared.terms ∙ ap (λ (f : Future (List ℕ)). record { filter = f.filter; thresholds = f.thresholds; makers = workers + 1 }) core_is
+        ∙ ap (λ makers. record { filter = is_filter kind; thresholds = record { cancel_after = cancel_after; suspend_after = suspend_after }; makers = makers }) (sym (plain_passes kind workers plain));
     count = left_long;
     each = λ number within. let count = left_long in popped_others numbered first left taken' reporting first_are taken'_is first_numbered number (omega arith);
     reporting_is = popped_last numbered first left taken' reporting first_are taken'_is first_numbered ∙ ap numbered left_long;
-    caller_is = popped_last numbered all first taken caller all_are taken_is all_numbered ∙ ap numbered first_long;
+    caller_is = popped_last numbered all first taken caller all_are taken_is all_numbered ∙ ap numbered (first_long ∙ sym (plain_passes kind workers plain));
   }
 
 -- ---- the board
@@ -111,7 +112,7 @@ module _ {F : Type 0} (value : F → List ℕ → ItemValue) (called : F → Lis
     opened = subst (λ k. BeginsWith k opening) (sym (ap (λ (p : PassState (List ℕ)). p.known) pass_is)) (begins_same opening);
     reports =
         let none : calls_by pass.number pass.known ≡ [] = ap (λ (p : PassState (List ℕ)). calls_by p.number p.known) pass_is ∙ none_own (reporter parts) some in
-        subst (All (IsOfPiece (work_of value parts) parts.counter.n parts.sizes tally.pieces)) (sym none) (All-nil (IsOfPiece (work_of value parts) parts.counter.n parts.sizes tally.pieces));
+        subst (All (IsBoardCall parts.future.terms false (work_of value parts) parts.counter.n parts.sizes tally.pieces)) (sym none) (All-nil (IsBoardCall parts.future.terms false (work_of value parts) parts.counter.n parts.sizes tally.pieces));
     mark = (
       λ on. subst (λ claims. AreReported parts.counter.n (reporter parts) claims pass.known) (sym (ap (λ (t : TallyState). t.pieces) tally_is)) (All-nil (λ claim. Contains (ranges_by (reporter parts) pass.known) (clipped parts.counter.n claim))),
       λ all. refl,
@@ -148,21 +149,23 @@ module _ {F : Type 0} (value : F → List ℕ → ItemValue) (called : F → Lis
       sizes = refl;
     };
     own =
-        let P = IsOwnCall (work_of value parts) false (called function) in
+        let P = IsOwnCall parts.kind parts.future.terms (work_of value parts) false (called function) in
         All-filter (λ (logged : Logged (List ℕ)). logged.entry.caller == number) P opening (All-cons P (record { entry = own_entry Start; values = []; item = [] }) [] start_own (All-nil P));
     left = [];
     one = omega arith;
-    left_are = All-nil (IsLeft parts.counter.n (reporter parts) (pass_at parts.future number opening));
     worked = record {
       whole = [];
       parts = refl;
       least = λ index. omega arith;
       most = λ index. let none : called function ≡ [] = fresh in subst (λ calls. times_called calls index ≤ 0) (sym none) (omega arith);
     };
-    handed = inl (All-nil (λ claim. Contains (ranges_by (reporter parts) opening) (clipped parts.counter.n claim)));
+    board = record {
+      left_are = All-nil (IsLeft parts.counter.n (reporter parts) (pass_at parts.future number opening));
+      handed = inl (All-nil (λ claim. Contains (ranges_by (reporter parts) opening) (clipped parts.counter.n claim)));
+    };
   }
     where
-      start_own : IsOwnCall (work_of value parts) false (called function) (record { entry = own_entry Start; values = []; item = [] })
+      start_own : IsOwnCall parts.kind parts.future.terms (work_of value parts) false (called function) (record { entry = own_entry Start; values = []; item = [] })
       start_own = record { own = refl; fails = λ index e. absurd (not_fail index e); cancels = λ e. absurd (not_cancel e) }
         where
           not_fail : (index : ℕ) → Start ≡ Fail index → ⊥
@@ -217,22 +220,26 @@ module _ {F : Type 0} (value : F → List ℕ → ItemValue) (called : F → Lis
 
 -- ---- the engine
 
-module _ {F : Type 0} (value : F → List ℕ → ItemValue) (called : F → List ℕ) (kind : Kind) (items : List (List ℕ)) (workers : ℕ) (sizes : List ℕ) (functions : List F) (planned : IsPlanned value called kind items workers sizes functions) (cancel_after suspend_after : ℕ)
+module _ {F R : Type 0} (value : F → List ℕ → ItemValue) (called : F → List ℕ) (kind : Kind) (fold : Option R) (items : List (List ℕ)) (workers : ℕ) (sizes : List ℕ) (functions : List F) (planned : IsPlanned value called kind fold items workers sizes functions) (cancel_after suspend_after : ℕ)
     (future : FutureId) (passes : List (PassState (List ℕ))) (reporting caller : PassState (List ℕ)) (opened : IsOpened (plan_terms kind cancel_after suspend_after workers) workers future passes reporting caller)
     (counter : CounterId) (seats : List SeatState) (tally : TallyState) (new : IsNew (length items) workers counter seats tally)
     (active : CountId) (badges : List BadgeState) (counted : IsNewCount workers active badges) where
   abbrev made : EngineParts F
-  made = parts_with counter future active items functions sizes
+  made = parts_with kind counter future active items functions sizes
 
   pub made_fits : FitTogether value made
   made_fits = record {
     indexes = new.indexes;
     limits = subst (λ n. IsWithinLimits n counter.workers) (sym new.indexes) (subst (IsWithinLimits (length items)) (sym new.for_workers) planned.limits);
     active = counted.for_workers ∙ sym new.for_workers;
-    makers = ap (λ (terms : Terms). terms.makers) opened.terms_are ∙ ap (λ k. k + 1) (sym new.for_workers);
+    makers = ap (λ (terms : Terms). terms.makers) opened.terms_are ∙ ap (own_passes kind) (sym new.for_workers);
+    filter = ap (λ (terms : Terms). terms.filter) opened.terms_are;
     sizes = planned.sizes_are;
-    suits = subst (λ filter. Suits filter (work_of value made)) (sym (ap (λ (terms : Terms). terms.filter) opened.terms_are)) planned.suits;
+    suits = planned.suits;
   }
+
+  pub made_has : HasBoard made
+  made_has = record { plain = planned.plain }
 
   pub made_board : IsBoard value made tally reporting true
   made_board = board_opens value called made tally reporting (let one = planned.limits.one in let is = new.for_workers in omega arith) new.nothing (opened.reporting_is ∙ ap (λ k. pass_at future k opening) (sym new.for_workers))
@@ -249,17 +256,19 @@ module _ {F : Type 0} (value : F → List ℕ → ItemValue) (called : F → Lis
       (λ i within. opened.each i (omega arith) ∙ ap (λ j. Some (pass_at future j opening)) (omega arith))
       planned.alike planned.fresh (λ i within. ap (slice_get functions) (omega arith)) counted.all_out
 
-  pub made_engine : (parts : EngineParts F) (desks : List (DeskState F)) → parts ≡ made → desks ≡ desks_with seats passes badges functions → IsEngineOf value called items (plan_terms kind cancel_after suspend_after workers) sizes functions parts desks caller
+  pub made_engine : (parts : EngineParts F) (desks : List (DeskState F)) → parts ≡ made → desks ≡ desks_with seats passes badges functions → IsEngineOf value called items kind (plan_terms kind cancel_after suspend_after workers) sizes functions parts desks caller
   made_engine parts desks parts_are desks_are =
-      let is : IsEngineOf value called items (plan_terms kind cancel_after suspend_after workers) sizes functions made (desks_with seats passes badges functions) caller = record {
+      let is : IsEngineOf value called items kind (plan_terms kind cancel_after suspend_after workers) sizes functions made (desks_with seats passes badges functions) caller = record {
+        kind_is = refl;
         items_are = refl;
         functions_are = refl;
         sizes_are = refl;
         terms_are = opened.terms_are;
         fits = made_fits;
+        board = made_has;
         desks_are = record { count = fresh.count_is ∙ planned.count ∙ sym new.for_workers; each = fresh.each };
         fresh = λ number within. let count = fresh.count_is in subst (λ j. IfSome (slice_get (desks_with seats passes badges functions) number) (IsNewDesk made j)) (omega arith) (fresh.fresh number (omega arith));
-        pass_is = opened.caller_is ∙ ap (λ k. pass_at future (k + 1) opening) (sym new.for_workers);
+        pass_is = opened.caller_is ∙ ap (λ k. pass_at future (own_passes kind k) opening) (sym new.for_workers);
       } in
-      subst (λ (c : EngineParts F). IsEngineOf value called items (plan_terms kind cancel_after suspend_after workers) sizes functions c desks caller) (sym parts_are)
-      (subst (λ (ds : List (DeskState F)). IsEngineOf value called items (plan_terms kind cancel_after suspend_after workers) sizes functions made ds caller) (sym desks_are) is)
+      subst (λ (c : EngineParts F). IsEngineOf value called items kind (plan_terms kind cancel_after suspend_after workers) sizes functions c desks caller) (sym parts_are)
+      (subst (λ (ds : List (DeskState F)). IsEngineOf value called items kind (plan_terms kind cancel_after suspend_after workers) sizes functions made ds caller) (sym desks_are) is)

@@ -27,7 +27,10 @@ use Rattle.qtc_shared.specs.Parts.{Terms, future_at}
 use Rattle.qtc_shared.specs.Laws.{KnownIsKept}
 use Rattle.qtc_shared.specs.Passes.{FutureId, IsHold, Makes, Meets, PassState, Stays}
 use Rattle.qtc_shared.proofs.Prefixes.{begins_further, begins_same, saw_begins}
-use Rattle.qtc_kernel.specs.EngineParts.{AreReported, EngineParts, DeskState, HasMetEnd, FitTogether, IsDesk, IsLeft, IsOfPiece, IsOwnCall, given_at, is_own, is_report, is_strange, opening, ranges_by, reporter, shows_end, work_of}
+use Rattle.qtc_kernel.specs.OwnPasses.{opening}
+use Rattle.qtc_kernel.specs.declared.kinds.Kind.{Kind}
+use Rattle.qtc_kernel.proofs.OwnPasses.{desk_no_report, plain_passes}
+use Rattle.qtc_kernel.specs.EngineParts.{AreReported, EngineParts, DeskState, HasMetEnd, FitTogether, HasBoard, IsBoardCall, IsDesk, IsLeft, IsOwnCall, given_at, is_report, is_strange, ranges_by, reporter, shows_end, work_of}
 use Rattle.qtc_kernel.specs.BroughtIn.{AreBroughtIn, IsUncovered}
 use Rattle.qtc_kernel.specs.Endings.{AreSettled, IsMet, functions_at, workers_at}
 use Rattle.qtc_kernel.specs.Gathering.{IsClaimed, gathered_ranges}
@@ -93,31 +96,20 @@ module _ (old between new : PassState (List ℕ)) (effect : Bool) (finish : IsHo
 
 -- ---- whose calls they are
 
-module _ (work : Workload) (n : ℕ) (sizes : List ℕ) (pieces : List Addition) (workers : ℕ) (calls : List ℕ) where
-  unfinished_from : (s : Standing) (journal : Journal) → s.finished ≡ false → All (IsOurs work n sizes pieces workers calls) journal → All (IsAllowed (workers + 1)) journal → (fold after_entry s (entries_of journal)).finished ≡ false
-  unfinished_from s [] none ours allowed = none
-  unfinished_from s (logged ∷ journal) none ours allowed =
+module _ (kind : Kind) (terms : Terms) (work : Workload) (n : ℕ) (sizes : List ℕ) (pieces : List Addition) (workers : ℕ) (calls : List ℕ) where
+  unfinished_from : (s : Standing) (journal : Journal) → s.finished ≡ false → All (IsOurs kind terms work n sizes pieces workers calls) journal → (fold after_entry s (entries_of journal)).finished ≡ false
+  unfinished_from s [] none ours = none
+  unfinished_from s (logged ∷ journal) none ours =
       unfinished_from (after_entry s logged.entry) journal
       (unfinished_after s logged.entry.call logged.entry.reached
-      (not_finish work n sizes pieces workers calls logged (All-head (IsOurs work n sizes pieces workers calls) logged journal ours) (All-head (IsAllowed (workers + 1)) logged journal allowed)) none)
-      (All-tail (IsOurs work n sizes pieces workers calls) logged journal ours) (All-tail (IsAllowed (workers + 1)) logged journal allowed)
+      (not_finish kind terms work n sizes pieces workers calls logged (All-head (IsOurs kind terms work n sizes pieces workers calls) logged journal ours)) none)
+      (All-tail (IsOurs kind terms work n sizes pieces workers calls) logged journal ours)
 
-  unfinished : (journal : Journal) → All (IsOurs work n sizes pieces workers calls) journal → All (IsAllowed (workers + 1)) journal → (flags_at journal).finished ≡ false
-  unfinished journal ours allowed = unfinished_from new_flags journal refl ours allowed
+  unfinished : (journal : Journal) → All (IsOurs kind terms work n sizes pieces workers calls) journal → (flags_at journal).finished ≡ false
+  unfinished journal ours = unfinished_from new_flags journal refl ours
 
   abbrev Own : Logged (List ℕ) → Type 0
-  Own logged = IsOwnCall work false calls logged
-
-  own_no_report : (call : Call) → is_own call ≡ true → is_report call ≡ false
-  own_no_report Start own = refl
-  own_no_report (Report begin kept total) own = absurd (cc)
-  own_no_report (Account total) own = refl
-  own_no_report Suspend own = refl
-  own_no_report Resume own = refl
-  own_no_report ReportSuspended own = refl
-  own_no_report Cancel own = refl
-  own_no_report (Fail index) own = refl
-  own_no_report Finish own = refl
+  Own logged = IsOwnCall kind terms work false calls logged
 
   report_makers : (call : Call) → is_report call ≡ true → is_makers call ≡ true
   report_makers (Report begin kept total) e = refl
@@ -141,7 +133,7 @@ module _ (work : Workload) (n : ℕ) (sizes : List ℕ) (pieces : List Addition)
       same caller is = grind (arith, nat_tests)
 
       by : Dec (logged.entry.caller < workers) → is_report logged.entry.call ≡ true → not (logged.entry.caller == workers) ≡ false
-      by (yes less) e = absurd (false≢true (sym (own_no_report logged.entry.call (own less).own) ∙ e))
+      by (yes less) e = absurd (false≢true (sym (desk_no_report kind terms logged.entry.call (own less).own) ∙ e))
       by (no more) e = let below : logged.entry.caller < workers + 1 = allowed.maker (report_makers logged.entry.call e) in same logged.entry.caller (omega arith)
 
   -- one number alone reports
@@ -150,7 +142,7 @@ module _ (work : Workload) (n : ℕ) (sizes : List ℕ) (pieces : List Addition)
   none_is_strange (logged ∷ journal) own allowed =
       both (is_strange workers logged) (list_any (is_strange workers) journal)
       (not_strange logged (λ below. All-head Own logged (calls_by logged.entry.caller journal) (subst (All Own) (here logged.entry.caller refl) (own logged.entry.caller below))) (All-head (IsAllowed (workers + 1)) logged journal allowed))
-      (none_is_strange journal (λ number below. tail_by work n sizes pieces workers calls Own number logged journal (own number below)) (All-tail (IsAllowed (workers + 1)) logged journal allowed))
+      (none_is_strange journal (λ number below. tail_by kind terms work n sizes pieces workers calls Own number logged journal (own number below)) (All-tail (IsAllowed (workers + 1)) logged journal allowed))
     where
       both : (a b : Bool) → a ≡ false → b ≡ false → (a || b) ≡ false
       both a b h k = grind arith
@@ -216,7 +208,7 @@ module _ {F : Type 0} (value : F → List ℕ → ItemValue) (called : F → Lis
   -- what it knows and what it met is in the journal, with its own calls
   record IsIn (calls : List ℕ) (journal : Journal) (desk : DeskState F) : Type 0 where
     desk_is : IsDesk value called parts desk
-    own : All (IsOwnCall (work_of value parts) false calls) (calls_by desk.seat.worker.number journal)
+    own : All (IsOwnCall parts.kind parts.future.terms (work_of value parts) false calls) (calls_by desk.seat.worker.number journal)
     begins : BeginsWith journal desk.pass.known
     ends : HasMetEnd desk.pass → shows_end (flags_at journal) ≡ true
 
@@ -235,12 +227,12 @@ module _ {F : Type 0} (value : F → List ℕ → ItemValue) (called : F → Lis
       All-cons (IsSettling calls) desk desks (record { desk_is = All-head (IsDesk value called parts) desk desks are; wants_memory = All-head Wants desk desks wants_memory; more = All-head More desk desks more })
       (are_settling calls desks (All-tail (IsDesk value called parts) desk desks are) (All-tail Wants desk desks wants_memory) (All-tail More desk desks more))
 
-  own_met : (calls : List ℕ) (desk : DeskState F) (journal : Journal) → IsSettling calls desk → Meets desk.pass journal → All (IsOwnCall (work_of value parts) false calls) (calls_by desk.seat.worker.number journal)
+  own_met : (calls : List ℕ) (desk : DeskState F) (journal : Journal) → IsSettling calls desk → Meets desk.pass journal → All (IsOwnCall parts.kind parts.future.terms (work_of value parts) false calls) (calls_by desk.seat.worker.number journal)
   own_met calls desk journal is met =
-      subst (λ k. All (IsOwnCall (work_of value parts) false calls) (calls_by k journal)) is.desk_is.seated.numbered
-      (subst (All (IsOwnCall (work_of value parts) false calls)) (sym met.own)
-      (All-weaker (IsOwnCall (work_of value parts) desk.wants_memory (called desk.function)) (IsOwnCall (work_of value parts) false calls)
-      (λ logged. own_more (work_of value parts) desk.wants_memory false (called desk.function) calls logged (λ wants. sym is.wants_memory ∙ wants) is.more) (calls_by desk.pass.number desk.pass.known) is.desk_is.own))
+      subst (λ k. All (IsOwnCall parts.kind parts.future.terms (work_of value parts) false calls) (calls_by k journal)) is.desk_is.seated.numbered
+      (subst (All (IsOwnCall parts.kind parts.future.terms (work_of value parts) false calls)) (sym met.own)
+      (All-weaker (IsOwnCall parts.kind parts.future.terms (work_of value parts) desk.wants_memory (called desk.function)) (IsOwnCall parts.kind parts.future.terms (work_of value parts) false calls)
+      (λ logged. own_more parts.kind parts.future.terms (work_of value parts) desk.wants_memory false (called desk.function) calls logged (λ wants. sym is.wants_memory ∙ wants) is.more) (calls_by desk.pass.number desk.pass.known) is.desk_is.own))
 
   first_in : (calls : List ℕ) (desk : DeskState F) (journal : Journal) → IsSettling calls desk → Meets desk.pass journal → IsIn calls journal desk
   first_in calls desk journal is met = record {
@@ -254,7 +246,7 @@ module _ {F : Type 0} (value : F → List ℕ → ItemValue) (called : F → Lis
   other_in calls desk first journal known is met grew later begins =
       let before : BeginsWith journal desk.pass.known = begins_further desk.pass.known first journal met.known grew in
       let number = desk.seat.worker.number in
-      let P = IsOwnCall (work_of value parts) false calls in
+      let P = IsOwnCall parts.kind parts.future.terms (work_of value parts) false calls in
       record {
         desk_is = is.desk_is;
         own = all_left P (calls_by number journal) (calls_by number begins.later)
@@ -273,10 +265,10 @@ module _ {F : Type 0} (value : F → List ℕ → ItemValue) (called : F → Lis
       (others_in calls desks first journal known (All-tail (IsSettling calls) desk desks are) (All-tail (IsMet first) desk desks met) grew (All-tail Later desk desks later) begins)
 
   -- whoever has a number among them made just its own calls
-  own_all : (calls : List ℕ) (journal : Journal) (number : ℕ) (desks : List (DeskState F)) → All (IsIn calls journal) desks → 1 ≤ times_numbered number (workers_at desks) → All (IsOwnCall (work_of value parts) false calls) (calls_by number journal)
+  own_all : (calls : List ℕ) (journal : Journal) (number : ℕ) (desks : List (DeskState F)) → All (IsIn calls journal) desks → 1 ≤ times_numbered number (workers_at desks) → All (IsOwnCall parts.kind parts.future.terms (work_of value parts) false calls) (calls_by number journal)
   own_all calls journal number [] all some = absurd (omega arith)
   own_all calls journal number (desk ∷ desks) all some =
-      let P = IsOwnCall (work_of value parts) false calls in
+      let P = IsOwnCall parts.kind parts.future.terms (work_of value parts) false calls in
       elim (desk.seat.worker.number == number) as (λ b. (desk.seat.worker.number == number) ≡ b → All P (calls_by number journal)) [
         | true ↦ λ e. subst (λ k. All P (calls_by k journal)) (equal desk.seat.worker.number number e) (All-head (IsIn calls journal) desk desks all).own
         | false ↦ λ e.
@@ -310,7 +302,7 @@ module _ {F : Type 0} (value : F → List ℕ → ItemValue) (called : F → Lis
             (λ claim left index low high.
             ap (λ batches. times_covered (map range_of batches) index) plain
             ∙ ap (λ ranges. times_covered ranges index) (reports_rest terms desk.pass.known journal is.begins lawful left.ended (reporter parts))
-            ∙ left.uncovered index low high) own is.desk_is.left_are)
+            ∙ left.uncovered index low high) own is.desk_is.board.left_are)
             others.uncovered;
         least = λ index.
             let worked = is.desk_is.worked in
@@ -342,7 +334,7 @@ module _ {F : Type 0} (value : F → List ℕ → ItemValue) (called : F → Lis
       is = All-head (IsIn calls journal) desk desks all
 
       one : All Reported (given_at parts.counter.n desk)
-      one = elim is.desk_is.handed [
+      one = elim is.desk_is.board.handed [
         | inl reported ↦ All-weaker (λ claim. Contains (ranges_by (reporter parts) desk.pass.known) (clipped parts.counter.n claim)) Reported (λ claim. contained_on (reporter parts) desk.pass.known journal (clipped parts.counter.n claim) is.begins) (given_at parts.counter.n desk) reported
         | inr (inl met) ↦ absurd (going (is.ends met))
         | inr (inr strange) ↦ absurd (false≢true (sym none ∙ strange_on (reporter parts) desk.pass.known journal is.begins strange))
@@ -350,7 +342,7 @@ module _ {F : Type 0} (value : F → List ℕ → ItemValue) (called : F → Lis
 
 -- ---- all together
 
-module _ {F : Type 0} (value : F → List ℕ → ItemValue) (called : F → List ℕ) (parts : EngineParts F) (fits : FitTogether value parts) (first : DeskState F) (others : List (DeskState F)) (known : Journal) (ended : Bool) (s : AreSettled value parts first others known ended)
+module _ {F : Type 0} (value : F → List ℕ → ItemValue) (called : F → List ℕ) (parts : EngineParts F) (fits : FitTogether value parts) (has : HasBoard parts) (first : DeskState F) (others : List (DeskState F)) (known : Journal) (ended : Bool) (s : AreSettled value parts first others known ended)
     (count : length (first ∷ others) ≡ parts.counter.workers) (first_is : IsDesk value called parts first) (others_are : All (IsDesk value called parts) others) (met : All (IsMet first.pass.known) others)
     (over : (parts.counter.n ≤ first.seat.worker.seen) ⊎ HasMetEnd first.pass) (no_want : first.wants_memory ≡ false) (none_want : All (λ desk. desk.wants_memory ≡ false) others)
     (calls : List ℕ) (calls_are : (index : ℕ) → times_called calls index ≡ times_called (calls_at value called parts (first ∷ others)) index) where
@@ -430,33 +422,36 @@ module _ {F : Type 0} (value : F → List ℕ → ItemValue) (called : F → Lis
 
   -- ---- whose calls they are
 
-  own : (number : ℕ) → number < parts.counter.workers → All (IsOwnCall work false calls) (calls_by number s.journal)
+  own : (number : ℕ) → number < parts.counter.workers → All (IsOwnCall parts.kind parts.future.terms work false calls) (calls_by number s.journal)
   own number below =
       let one : times_numbered number (workers_at desks) ≡ 1 =
       ap (times_numbered number) (sym workers_are) ∙ knows.numbers number (subst (λ (c : CounterId). number < c.workers) (sym tally_of) below)
       in
       own_all value called parts calls s.journal number desks are_in (omega (arith, one))
 
-  reports : All (IsOfPiece work n parts.sizes s.before.pieces) (calls_by (reporter parts) s.journal)
+  reports : All (IsBoardCall parts.future.terms false work n parts.sizes s.before.pieces) (calls_by (reporter parts) s.journal)
   reports =
-      let P = IsOfPiece work n parts.sizes s.before.pieces in
+      let P = IsBoardCall parts.future.terms false work n parts.sizes s.before.pieces in
       let at_known : All P (calls_by (reporter parts) known) =
       subst (λ j. All P (calls_by (reporter parts) j)) s.board_knows (subst (λ k. All P (calls_by k s.board.known)) s.board_is.number s.board_is.reports)
       in
       all_left P (calls_by (reporter parts) s.journal) (calls_by (reporter parts) begins.later)
       (subst (All P) (ap (calls_by (reporter parts)) begins.is ∙ calls_by-append (reporter parts) s.journal begins.later) at_known)
 
-  allowed : All (IsAllowed (parts.counter.workers + 1)) s.journal
-  allowed = subst (λ makers. All (IsAllowed makers) s.journal) (ap (λ (t : Terms). t.makers) terms_are ∙ fits.makers) s.met.lawful.allowed
+  makers_are : parts.future.terms.makers ≡ parts.counter.workers + 1
+  makers_are = fits.makers ∙ plain_passes parts.kind parts.counter.workers has.plain
 
-  ours : All (IsOurs work n parts.sizes s.before.pieces parts.counter.workers calls) s.journal
-  ours = all_ours work n parts.sizes s.before.pieces parts.counter.workers calls s.journal reports own
+  allowed : All (IsAllowed (parts.counter.workers + 1)) s.journal
+  allowed = subst (λ makers. All (IsAllowed makers) s.journal) (ap (λ (t : Terms). t.makers) terms_are ∙ makers_are) s.met.lawful.allowed
+
+  ours : All (IsOurs parts.kind parts.future.terms work n parts.sizes s.before.pieces parts.counter.workers calls) s.journal
+  ours = all_ours parts.kind parts.future.terms work n parts.sizes s.before.pieces parts.counter.workers calls s.journal reports own allowed
 
   open_yet : (flags_at s.journal).finished ≡ false
-  open_yet = unfinished work n parts.sizes s.before.pieces parts.counter.workers calls s.journal ours allowed
+  open_yet = unfinished parts.kind parts.future.terms work n parts.sizes s.before.pieces parts.counter.workers calls s.journal ours
 
   none_strange : list_any (is_strange (reporter parts)) s.journal ≡ false
-  none_strange = none_is_strange work n parts.sizes s.before.pieces parts.counter.workers calls s.journal own allowed
+  none_strange = none_is_strange parts.kind parts.future.terms work n parts.sizes s.before.pieces parts.counter.workers calls s.journal own allowed
 
   -- where nothing was canceled, no end stands
   going : (flags_at s.journal).canceled ≡ false → shows_end (flags_at s.journal) ≡ true → ⊥
@@ -518,38 +513,35 @@ module _ {F : Type 0} (value : F → List ℕ → ItemValue) (called : F → Lis
         reported = subst (λ ranges. All (λ claim. Contains ranges (clipped s.tally.of.n claim)) s.tally.pieces) (sym (same_ranges (reporter parts))) there.reported;
       })
 
-  brought_in : AreBroughtIn work parts.sizes parts.future.terms s.journal s.tally calls
+  brought_in : AreBroughtIn work parts.sizes parts.kind parts.future.terms s.journal parts.counter s.tally calls
   brought_in = record {
-    indexes = ap (λ (c : CounterId). c.n) tally_of ∙ fits.indexes;
-    makers = fits.makers ∙ ap (λ (c : CounterId). c.workers + 1) (sym tally_of);
+    plain = has.plain;
+    indexes = fits.indexes;
+    makers = fits.makers;
     opened = begins_further opening first.pass.known s.journal first_is.seated.opened (All-head (IsIn value called parts calls s.journal) first others are_in).begins;
-    own = λ number below. own number (subst (λ (c : CounterId). number < c.workers) tally_of below);
-    reports = subst (λ (c : CounterId). All (IsOfPiece work c.n parts.sizes s.tally.pieces) (calls_by c.workers s.journal)) (sym tally_of)
-        (subst (λ pieces. All (IsOfPiece work n parts.sizes pieces) (calls_by (reporter parts) s.journal)) (sym s.pieces) reports);
-    gathered = subst (λ c. IsGathered c s.tally) (sym tally_of) s.gathered;
+    own = own;
+    reports = subst (λ pieces. All (IsBoardCall parts.future.terms false work n parts.sizes pieces) (calls_by (reporter parts) s.journal)) (sym s.pieces) reports;
+    of = tally_of;
+    gathered = s.gathered;
     knows = knows;
     all = has_all;
     left = left.left;
-    uncovered = subst (λ (c : CounterId). All (IsUncovered c.n s.journal) left.left) (sym tally_of) left.uncovered;
+    uncovered = left.uncovered;
     most = λ index.
-        subst (λ (c : CounterId). times_called calls index ≤ times_covered (map (clipped c.n) (claims_of s.tally.workers)) index) (sym tally_of)
-        (subst (λ ws. times_called calls index ≤ times_covered (map (clipped n) (claims_of ws)) index) (sym workers_are)
-        (subst (λ k. k ≤ times_covered (map (clipped n) (claims_of (workers_at desks))) index) (sym (calls_are index)) (most value called parts index desks are_desks)));
+        subst (λ ws. times_called calls index ≤ times_covered (map (clipped n) (claims_of ws)) index) (sym workers_are)
+        (subst (λ k. k ≤ times_covered (map (clipped n) (claims_of (workers_at desks))) index) (sym (calls_are index)) (most value called parts index desks are_desks));
     least = λ index.
-        subst (λ (c : CounterId). times_covered (map (clipped c.n) (gave c.n (claims_of s.tally.workers))) index ≤ times_called calls index + times_covered (map (clipped c.n) left.left) index) (sym tally_of)
-        (subst (λ ws. times_covered (map (clipped n) (gave n (claims_of ws))) index ≤ times_called calls index + times_covered (map (clipped n) left.left) index) (sym workers_are)
-        (subst (λ k. times_covered (map (clipped n) (gave n (claims_of (workers_at desks)))) index ≤ k + times_covered (map (clipped n) left.left) index) (sym (calls_are index)) (left.least index)));
-    tiled = λ not_canceled.
-        subst (λ (c : CounterId). Tiles (ranges_by c.workers s.journal) c.n) (sym tally_of)
-        (subst (λ ranges. Tiles ranges n) (same_ranges (reporter parts)) (s.tiles (never_false not_canceled)));
+        subst (λ ws. times_covered (map (clipped n) (gave n (claims_of ws))) index ≤ times_called calls index + times_covered (map (clipped n) left.left) index) (sym workers_are)
+        (subst (λ k. times_covered (map (clipped n) (gave n (claims_of (workers_at desks)))) index ≤ k + times_covered (map (clipped n) left.left) index) (sym (calls_are index)) (left.least index));
+    tiled = λ not_canceled. subst (λ ranges. Tiles ranges n) (same_ranges (reporter parts)) (s.tiles (never_false not_canceled));
   }
 
-  pub worked_out : IsWorkedOut work parts.sizes parts.future.terms known calls
+  pub worked_out : IsWorkedOut work parts.sizes parts.kind parts.future.terms known calls
   worked_out = elim either [
     | inl same ↦ absurd (false≢true (sym open_yet ∙ same.1))
     | inr more ↦
-        subst (λ j. IsWorkedOut work parts.sizes parts.future.terms j calls) (sym more)
-        (desks_are_worked_out work parts.sizes parts.future.terms s.journal s.tally calls logged brought_in refl
+        subst (λ j. IsWorkedOut work parts.sizes parts.kind parts.future.terms j calls) (sym more)
+        (desks_are_worked_out work parts.sizes parts.kind parts.future.terms s.journal parts.counter s.tally calls logged brought_in refl
         (subst (λ t. IsJournal t (s.journal ++ logged ∷ [])) terms_are (subst (IsJournal terms) more s.lawful)))
   ]
 

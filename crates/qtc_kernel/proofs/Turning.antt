@@ -14,8 +14,9 @@ use Rattle.qtc_ops.specs.ItemValue.{ItemValue}
 use Rattle.qtc_shared.specs.Passes.{PassState}
 use Rattle.qtc_shared.proofs.Prefixes.{begins_further}
 use Rattle.qtc_kernel.specs.Workload.{first_bad, indexes_of, item_at}
-use Rattle.qtc_kernel.specs.EngineParts.{AreOwnCalls, AreWorkedOn, EngineParts, DeskState, HasMetEnd, FitTogether, IsDesk, IsLeft, IsSeated, given_at, opening, reporter, work_of}
+use Rattle.qtc_kernel.specs.EngineParts.{AreOwnCalls, AreWorkedOn, EngineParts, DeskState, HasMetEnd, FitTogether, IsDesk, IsLeft, IsSeated, given_at, reporter, work_of}
 use Rattle.qtc_kernel.specs.Driving.{in_turn}
+use Rattle.qtc_kernel.specs.OwnPasses.{opening}
 use Rattle.qtc_kernel.specs.Runs.{times_called}
 use Rattle.qtc_kernel.specs.Turns.{Calls, ClaimsRange, GoesOn, IsLastTurn, LooksFree, IsTurn, goes_on, wants_after}
 use Rattle.qtc_kernel.specs.WorkedOut.{Continues}
@@ -95,7 +96,7 @@ module _ {F : Type 0} (value : F → List ℕ → ItemValue) (called : F → Lis
       given_more = ap (λ (w : Worker). gave parts.counter.n w.claims) claim.adds.grown ∙ gave_more parts.counter.n old.seat.worker.claims piece.addition claim.below
 
       none_left : desk.left ≡ []
-      none_left = by desk.left desk.left_are
+      none_left = by desk.left desk.board.left_are
         where
           Left : Addition → Type 0
           Left = IsLeft parts.counter.n (reporter parts) old.pass
@@ -137,7 +138,7 @@ module _ {F : Type 0} (value : F → List ℕ → ItemValue) (called : F → Lis
         own = own;
         worked = subst (AreWorkedOn parts.counter.n (given_at parts.counter.n old) []) (sym (ap called function))
             (subst (λ left. AreWorkedOn parts.counter.n (given_at parts.counter.n old) left (called old.function)) none_left desk.worked);
-        handed = handed_on parts.counter.n (reporter parts) (given_at parts.counter.n old) old.pass mid.pass (looked_on old.pass mid.pass looked) desk.handed;
+        handed = handed_on parts.counter.n (reporter parts) (given_at parts.counter.n old) old.pass mid.pass (looked_on old.pass mid.pass looked) desk.board.handed;
         piece_is = record {
           of = claim.of;
           below = claim.below;

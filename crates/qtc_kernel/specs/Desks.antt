@@ -3,8 +3,7 @@ use Rattle.std.specs.Prelude.{◌≡◌, ℕ, List}
 use Rattle.qtc_ops.specs.ItemValue.{ItemValue}
 use Rattle.qtc_kernel.specs.declared.desk.Desk.TheInside as desk
 use Rattle.qtc_kernel.specs.declared.engine.Engine.TheInside as engine
-use Rattle.qtc_kernel.specs.EngineParts.{DeskState, FitTogether}
-use Rattle.qtc_kernel.specs.Driving.{is_filter}
+use Rattle.qtc_kernel.specs.EngineParts.{DeskState, FitTogether, HasBoard}
 
 abbrev pub desk_state : {F : Type 0} → desk.Inside F → DeskState F
 desk_state a = record {
@@ -17,12 +16,13 @@ desk_state a = record {
 }
 
 -- the fields of an engine are its parts, which fit each other
-pub record IsEngine {F G : Type 0} (value : F → List ℕ → ItemValue) (a : engine.Inside F G) : Type 0 where
+pub record IsEngine {F R G A : Type 0} (value : F → List ℕ → ItemValue) (a : engine.Inside F R G A) : Type 0 where
   pub parts : FitTogether value a.board.key.parts
+  pub plain : HasBoard a.board.key.parts
   pub workers : a.workers ≡ a.board.key.parts.counter.workers
   pub counter : a.counter ≡ a.board.key.parts.counter
   pub future : a.future ≡ a.board.key.parts.future
   pub active : a.active ≡ a.board.key.parts.active
   pub items : a.items.now ≡ a.board.key.parts.items
   pub sizes : a.sizes ≡ a.board.key.parts.sizes
-  pub filter : is_filter a.kind ≡ a.board.key.parts.future.terms.filter
+  pub kind : a.kind ≡ a.board.key.parts.kind

@@ -1,5 +1,6 @@
 -- What follows for every list of events, in any order. (Own.)
 use Rattle.std.specs.Prelude.{◌≡◌, ◌<◌, ◌≤◌, ℕ, min, List, [], All, Some, IsTrue}
+use Rattle.qtc_base.specs.Limits.{most_end}
 use Rattle.qtc_base.specs.Ranges.{Tiles, times_covered}
 use Rattle.qtc_store.specs.Stored.{IsFirstResults}
 use Rattle.qtc_future.specs.Future.{failure_of, flags_of, reports_of, results_of}
@@ -71,6 +72,6 @@ pub record IsSequential (work : Workload) (mode : Mode) (events : List Event) : 
 
 abbrev pub WholeRunsAreSequential : Type 0
 WholeRunsAreSequential = (work : Workload) (mode : Mode) (events : List Event) →
-    Suits mode.filter work → size_of work ≤ 8388608 → IsThrough work (run_of work mode events) →
+    Suits mode.filter work → size_of work ≤ most_end → IsThrough work (run_of work mode events) →
     AreInTime work (new_engine mode.filter mode.cancel_after mode.suspend_after) events →
     IsSequential work mode events

@@ -3,6 +3,7 @@ pub mod Workload
 pub mod Machine
 pub mod Runs
 pub mod Laws
+pub mod OwnPasses
 pub mod Driving
 pub mod Inside
 pub mod EngineParts

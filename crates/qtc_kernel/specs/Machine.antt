@@ -3,6 +3,7 @@
 -- own.)
 use Rattle.std.specs.Prelude.{ℕ, ◌+◌, ◌-◌, ◌==◌, ◌&&◌, nat_le, nat_lt, not, Bool, true, false, if◌then◌else◌, List, [], ◌∷◌, ◌++◌, filter, fold, is_none, Option, Some, None}
 use Rattle.std.specs.List.{list_any}
+use Rattle.qtc_base.specs.Limits.{most_block}
 use Rattle.qtc_base.specs.Ranges.{clip}
 use Rattle.qtc_future.specs.Future.{Future, new_future}
 use Rattle.qtc_future.specs.Steps.{Told, Accepted, Stepped, step}
@@ -56,7 +57,7 @@ pub data Event : Type 0 where
 
 -- the sizes that a claim may have
 abbrev pub is_size : ℕ → Bool
-is_size size = nat_le 1 size && nat_le size 65536
+is_size size = nat_le 1 size && nat_le size most_block
 
 abbrev pub is_same : ℕ × ℕ → ℕ × ℕ → Bool
 is_same a b = (a.0 == b.0) && (a.1 == b.1)

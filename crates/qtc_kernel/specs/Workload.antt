@@ -53,6 +53,6 @@ worked_on work (index ∷ others) = index + 1
 abbrev pub KeepsAll : Workload → Type 0
 KeepsAll work = All (λ item. work.value item ≢ dropped) work.items
 
--- in plain mode each index has a result, so that no item may be dropped
+-- where no item may be dropped, none is
 abbrev pub Suits : Bool → Workload → Type 0
-Suits filter work = filter ≡ false → KeepsAll work
+Suits drops work = drops ≡ false → KeepsAll work

@@ -19,9 +19,10 @@ pub(crate) enum Block {
 
 /// How many values a block has room for from the beginning: all in a map; a filter's grow as they are kept.
 fn first_room(kind: Kind, block: Range) -> usize {
-    match kind {
-        Kind::Mapped => (block.end - block.begin) as usize,
-        Kind::Filtered => 0,
+    if kind.drops_items() {
+        0
+    } else {
+        (block.end - block.begin) as usize
     }
 }
 

@@ -3,6 +3,7 @@ ghost use Rattle.std.specs.Prelude.{◌≡◌, true, IfOk};
 ghost use Rattle.std.specs.Borrow.{ftrue};
 ghost use Rattle.qtc_kernel.specs.EngineParts.{EngineParts, IsBoard, parts_with};
 
+use crate::Kind;
 use qtc_active::ActiveCount;
 use qtc_base::{Bytes, Items, List, NoMemory};
 use qtc_claim::{Counter, Tally};
@@ -54,6 +55,7 @@ impl<F: ItemFn> Keyed for Board<F> {
 pub(crate) fn board_lock<F: ItemFn, J: Names<BoardKey<F>>>(
     alloc: Global,
     board: Board<F>,
+    kind: Kind,
     counter: &Counter,
     future: &SharedFuture<Bytes>,
     active: &ActiveCount,
@@ -63,10 +65,10 @@ pub(crate) fn board_lock<F: ItemFn, J: Names<BoardKey<F>>>(
 ) -> Result<KeyLock<Board<F>>, NoMemory>
     requires named { J.named ≡ true }
     requires key { J.key.parts
-        ≡ parts_with counter.now future.now active.now items.now functions.now.items sizes.now }
+        ≡ parts_with kind counter.now future.now active.now items.now functions.now.items sizes.now }
     requires fits { IsBoard F.value J.key.parts board.tally board.pass board.all_reported }
     ensures { IfOk result (λ lock. lock.key.parts
-        ≡ parts_with counter.now future.now active.now items.now functions.now.items sizes.now) }
+        ≡ parts_with kind counter.now future.now active.now items.now functions.now.items sizes.now) }
 {
     match KeyLock::new::<Brand>(alloc, board) {
         Ok(lock) => Ok(lock),

@@ -7,15 +7,15 @@ ghost use Rattle.qtc_shared.specs.Passes.{Meets};
 use crate::Engine;
 use qtc_base::Bytes;
 use qtc_future::FutureCore;
-use qtc_ops::ItemFn;
+use qtc_ops::{Fold, ItemFn};
 use qtc_outside::Gate;
 use qtc_shared::{Pass, known_is_kept};
 use std::sync::Wait;
 
-impl<'a, F: ItemFn, G: Gate> Engine<'a, F, G> {
+impl<'a, F: ItemFn, R: Fold, G: Gate> Engine<'a, F, R, G> {
     /// Ends the engine, and gives the core of its future. Where the pass knows that the future is finished, the core's
     /// calls are those that it knows.
-    pub fn close<R: Wait>(self, rt: &R, pass: Pass<Bytes>) -> FutureCore<Bytes>
+    pub fn close<W: Wait>(self, rt: &W, pass: Pass<Bytes>) -> FutureCore<Bytes>
         requires { pass.of ≡ self.future }
         ensures core { result ≡ future_at self.entry.future.terms result.calls }
         ensures met { Meets pass result.calls }
@@ -30,6 +30,8 @@ impl<'a, F: ItemFn, G: Gate> Engine<'a, F, G> {
             gate: _,
             workers: _,
             sizes: _,
+            ordered: _,
+            fold: _,
             counter: _,
             future,
             board: _,

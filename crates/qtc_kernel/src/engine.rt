@@ -1,6 +1,7 @@
 //! An engine that many workers drive.
 ghost use Rattle.std.specs.Prelude.{◌≡◌, ◌&&◌, not, nat_lt, true, false, IfOk};
-ghost use Rattle.qtc_kernel.specs.EngineParts.{IsDesk, IsEngineOf, IsPlanned, IsSameButLooks, plan_terms};
+ghost use Rattle.qtc_kernel.specs.EngineParts.{IsDesk, IsEngineOf, IsPlanned, IsSameButLooks};
+ghost use Rattle.qtc_kernel.specs.OwnPasses.{plan_terms};
 ghost use Rattle.qtc_kernel.specs.Turns.{MayStart};
 
 use crate::board::{Board, board_lock};
@@ -11,7 +12,7 @@ use qtc_active::ActiveCount;
 use qtc_base::{Bytes, Items, List, NoMemory};
 use qtc_claim::Counter;
 use qtc_lock::KeyLock;
-use qtc_ops::ItemFn;
+use qtc_ops::{Fold, ItemFn};
 use qtc_outside::Gate;
 use qtc_shared::{Pass, SharedFuture};
 use std::alloc::Global;
@@ -20,10 +21,10 @@ use std::marker::{Brand, Model, PhantomData};
 /// An engine that many workers drive, each from a desk of its own; they share it by reference. (After Qt's ThreadEngine
 /// and IterateKernel.)
 ///
-/// Contracts see its counter, its future, its count of workers that are in, the items, the functions of its workers as they began, and the sizes of its
-/// blocks (`EngineParts`).
+/// Contracts see its kind, its counter, its future, its count of workers that are in, the items, the functions of its
+/// workers as they began, and the sizes of its blocks (`EngineParts`).
 #[derive(Drop)]
-pub struct Engine<'a, F: ItemFn, G: Gate> {
+pub struct Engine<'a, F: ItemFn, R: Fold, G: Gate> {
     pub(crate) alloc: Global,
     pub(crate) kind: Kind,
     pub(crate) items: &'a Items,
@@ -31,13 +32,15 @@ pub struct Engine<'a, F: ItemFn, G: Gate> {
     pub(crate) gate: &'a G,
     pub(crate) workers: u32,
     pub(crate) sizes: List<u32>,
+    pub(crate) ordered: bool,
+    pub(crate) fold: Option<&'a R>,
     pub(crate) counter: Counter,
     pub(crate) future: SharedFuture<Bytes>,
     pub(crate) board: KeyLock<Board<F>>,
     pub(crate) active: ActiveCount,
 }
 
-impl<'a, F: ItemFn, G: Gate> Model for Engine<'a, F, G> {
+impl<'a, F: ItemFn, R: Fold, G: Gate> Model for Engine<'a, F, R, G> {
     ghost use Rattle.qtc_kernel.specs.EngineParts.{EngineParts};
 
     ghost Value = { EngineParts F };
@@ -49,22 +52,23 @@ impl<'a, F: ItemFn, G: Gate> Model for Engine<'a, F, G> {
     ghost invariant = { IsEngine F.value };
 }
 
-impl<'a, F: ItemFn + Drop, G: Gate> Engine<'a, F, G> {
+impl<'a, F: ItemFn + Drop, R: Fold, G: Gate> Engine<'a, F, R, G> {
     /// An engine, a desk for each worker, in order of their numbers and all out, and a pass for the caller.
     ///
     /// The future is started. The desks have its passes from 0 on, each with a function of its own; the next reports
-    /// for all of them, and the caller's is the one after. Err is want of memory.
+    /// for all of them, and the caller's is the one after. The kind is a plain one so far. Err is want of memory.
     pub fn new(
         alloc: Global,
-        plan: Plan<'a>,
+        plan: Plan<'a, R>,
         functions: Vec<F>,
         gate: &'a G,
-    ) -> Result<(Engine<'a, F, G>, Vec<Desk<F>>, Pass<Bytes>), NoMemory>
-        requires { IsPlanned F.value F.called plan.kind plan.items.now plan.workers plan.blocks functions.items }
+    ) -> Result<(Engine<'a, F, R, G>, Vec<Desk<F>>, Pass<Bytes>), NoMemory>
+        requires { IsPlanned F.value F.called plan.kind plan.fold plan.items.now plan.workers plan.blocks
+            functions.items }
         ensures { let plan = plan.entry in
             let terms = plan_terms plan.kind plan.cancel_after plan.suspend_after plan.workers in
-            IfOk result (λ made. IsEngineOf F.value F.called plan.items.now terms plan.blocks functions.items
-            made.0 made.1.items made.2) }
+            IfOk result (λ made. IsEngineOf F.value F.called plan.items.now plan.kind terms plan.blocks
+            functions.items made.0 made.1.items made.2) }
     {
         let Plan {
             kind,
@@ -72,8 +76,10 @@ impl<'a, F: ItemFn + Drop, G: Gate> Engine<'a, F, G> {
             job,
             workers,
             blocks,
+            ordered,
             cancel_after,
             suspend_after,
+            fold,
         } = plan;
         let Opened {
             future,
@@ -90,7 +96,7 @@ impl<'a, F: ItemFn + Drop, G: Gate> Engine<'a, F, G> {
             marker: PhantomData,
         };
         let board = board_lock::<F, Brand>(
-            alloc, board, &counter, &future, &active, items, &functions, &blocks,
+            alloc, board, kind, &counter, &future, &active, items, &functions, &blocks,
         )?;
         let desks = desks_of(alloc, seats, passes, badges, functions)?;
         let engine = Engine {
@@ -101,6 +107,8 @@ impl<'a, F: ItemFn + Drop, G: Gate> Engine<'a, F, G> {
             gate,
             workers,
             sizes: blocks,
+            ordered,
+            fold,
             counter,
             future,
             board,
@@ -110,7 +118,7 @@ impl<'a, F: ItemFn + Drop, G: Gate> Engine<'a, F, G> {
     }
 }
 
-impl<'a, F: ItemFn, G: Gate> Engine<'a, F, G> {
+impl<'a, F: ItemFn, R: Fold, G: Gate> Engine<'a, F, R, G> {
     /// The future, through which a caller watches, suspends and cancels, with passes of its own.
     pub fn future(&self) -> &SharedFuture<Bytes>
         ensures { result.now ≡ self.now.future }

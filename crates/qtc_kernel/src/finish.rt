@@ -1,9 +1,9 @@
 //! How an engine ends.
-ghost use Rattle.std.specs.Prelude.{◌≡◌, ◌≤◌, ◌⊎◌, ◌↔◌, ◌++◌, ◌∷◌, [], true, false, All, IfOk, IsTrue, length};
+ghost use Rattle.std.specs.Prelude.{◌≡◌, ◌≤◌, ◌⊎◌, ◌↔◌, ◌++◌, ◌∷◌, [], true, false, All, IfOk, IsTrue};
 ghost use Rattle.qtc_base.specs.Ranges.{Tiles};
 ghost use Rattle.qtc_claim.specs.Counter.{HasAll, IsGathered, KnowsClaims};
 ghost use Rattle.qtc_shared.specs.Journals.{IsJournal, calls_by, flags_at};
-ghost use Rattle.qtc_shared.specs.Passes.{IsHold, Meets, Stays};
+ghost use Rattle.qtc_shared.specs.Passes.{Meets};
 ghost use Rattle.qtc_kernel.specs.EngineParts.{AreDesks, HasMetEnd, IsBoard, IsDesk, ranges_by, reporter, work_of};
 ghost use Rattle.qtc_kernel.specs.Endings.{AreGathered, AreSettled, IsMet, KnowsTheSame, functions_at, wants_at, with_seat};
 ghost use Rattle.qtc_kernel.specs.Gathering.{HasEnded};
@@ -14,15 +14,15 @@ use crate::board::Board;
 use crate::{Desk, Engine};
 use qtc_base::{Bytes, List, NoMemory};
 use qtc_claim::Tally;
-use qtc_ops::ItemFn;
+use qtc_ops::{Fold, ItemFn};
 use qtc_outside::Gate;
 use qtc_shared::{Pass, known_is_kept};
 use std::alloc::Global;
 use std::sync::Wait;
 
-impl<'a, F: ItemFn, G: Gate> Engine<'a, F, G> {
+impl<'a, F: ItemFn, R: Fold, G: Gate> Engine<'a, F, R, G> {
     // Lets a pass meet those of the desks, one after the other.
-    fn meet_each<R: Wait>(&self, rt: &R, pass: &mut Pass<Bytes>, desks: &mut Vec<Desk<F>>)
+    fn meet_each<W: Wait>(&self, rt: &W, pass: &mut Pass<Bytes>, desks: &mut Vec<Desk<F>>)
         requires pass { pass.old.of ≡ self.now.future }
         requires desks { All (IsDesk F.value F.called self.now) desks.old.items }
         ensures pass { GoesOn pass.old pass.new }
@@ -38,7 +38,7 @@ impl<'a, F: ItemFn, G: Gate> Engine<'a, F, G> {
     }
 
     // Lets a pass meet that of a desk.
-    fn meet_desk<R: Wait>(&self, rt: &R, pass: &mut Pass<Bytes>, desk: &mut Desk<F>)
+    fn meet_desk<W: Wait>(&self, rt: &W, pass: &mut Pass<Bytes>, desk: &mut Desk<F>)
         requires pass { pass.old.of ≡ self.now.future }
         requires desk { IsDesk F.value F.called self.now desk.old }
         ensures pass { GoesOn pass.old pass.new }
@@ -65,11 +65,11 @@ impl<'a, F: ItemFn, G: Gate> Engine<'a, F, G> {
     }
 }
 
-impl<'a, F: ItemFn + Drop, G: Gate> Engine<'a, F, G> {
+impl<'a, F: ItemFn + Drop, R: Fold, G: Gate> Engine<'a, F, R, G> {
     // Lets a pass that knows the whole journal meet that of a desk, gathers the desk's seat, and gives its function.
-    fn bring_in<R: Wait>(
+    fn bring_in<W: Wait>(
         &self,
-        rt: &R,
+        rt: &W,
         pass: &mut Pass<Bytes>,
         tally: &mut Tally,
         desk: Desk<F>,
@@ -99,9 +99,9 @@ impl<'a, F: ItemFn + Drop, G: Gate> Engine<'a, F, G> {
     }
 
     // The same for all desks. False says that there was no room for all functions.
-    fn bring_all<R: Wait>(
+    fn bring_all<W: Wait>(
         &self,
-        rt: &R,
+        rt: &W,
         pass: &mut Pass<Bytes>,
         tally: &mut Tally,
         mut desks: Vec<Desk<F>>,
@@ -124,7 +124,7 @@ impl<'a, F: ItemFn + Drop, G: Gate> Engine<'a, F, G> {
     }
 
     // Works on with the first desk until nothing is left, and lets its pass meet those of the others.
-    fn work_off<R: Wait>(&self, rt: &R, first: &mut Desk<F>, others: &mut Vec<Desk<F>>)
+    fn work_off<W: Wait>(&self, rt: &W, first: &mut Desk<F>, others: &mut Vec<Desk<F>>)
         requires first { IsDesk F.value F.called self.now first.old }
         requires out { first.old.badge.is_in ≡ false }
         requires others { All (IsDesk F.value F.called self.now) others.old.items }
@@ -144,9 +144,9 @@ impl<'a, F: ItemFn + Drop, G: Gate> Engine<'a, F, G> {
 
     // Finishes the future with the first desk's pass, gathers what all desks have, and asks whether the work is at its
     // end. The first desk's function comes last.
-    fn settle<R: Wait>(
+    fn settle<W: Wait>(
         &self,
-        rt: &R,
+        rt: &W,
         board: &mut Board<F>,
         first: Desk<F>,
         others: Vec<Desk<F>>,
@@ -188,9 +188,9 @@ impl<'a, F: ItemFn + Drop, G: Gate> Engine<'a, F, G> {
     ///
     /// Err is want of memory, in this call or in an earlier turn of a desk, and nothing else; the future is finished
     /// then too.
-    pub fn finish<R: Wait>(
+    pub fn finish<W: Wait>(
         &self,
-        rt: &R,
+        rt: &W,
         alloc: Global,
         mut desks: Vec<Desk<F>>,
     ) -> Result<Finished<F>, NoMemory>
@@ -201,7 +201,7 @@ impl<'a, F: ItemFn + Drop, G: Gate> Engine<'a, F, G> {
         ensures childless { IfOk result (λ done. done.pass.children ≡ 0) }
         ensures memory { IfOk result (λ done. All (λ desk. desk.wants_memory ≡ false) desks.items) }
         ensures worked { IfOk result (λ done. IsWorkedOut (work_of F.value self.now) self.now.sizes
-            self.now.future.terms done.pass.known done.calls) }
+            self.now.kind self.now.future.terms done.pass.known done.calls) }
         ensures functions { IfOk result (λ done.
             AreContinued F.value F.called (functions_at desks.items) done.functions.items) }
         ensures calls { IfOk result (λ done. done.calls ≡ calls_of F.called done.functions.items) }

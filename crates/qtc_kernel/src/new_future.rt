@@ -1,6 +1,8 @@
 //! The future of an engine as it begins.
-ghost use Rattle.std.specs.Prelude.{◌≤◌, IfOk};
-ghost use Rattle.qtc_kernel.specs.EngineParts.{IsOpened, plan_terms};
+ghost use Rattle.std.specs.Prelude.{◌≡◌, ◌≤◌, false, IfOk};
+ghost use Rattle.qtc_base.specs.Limits.{most_workers};
+ghost use Rattle.qtc_kernel.specs.EngineParts.{IsOpened};
+ghost use Rattle.qtc_kernel.specs.OwnPasses.{is_reduced, plan_terms};
 
 use crate::Kind;
 use qtc_base::{Bytes, NoMemory};
@@ -20,7 +22,7 @@ pub(crate) struct Opened {
     pub caller: Pass<Bytes>,
 }
 
-/// Starts a future for so many workers. Err is want of memory.
+/// Starts a future for so many workers, which share a board. Err is want of memory.
 pub(crate) fn open_future(
     alloc: Global,
     kind: Kind,
@@ -28,7 +30,8 @@ pub(crate) fn open_future(
     suspend_after: u32,
     workers: u32,
 ) -> Result<Opened, NoMemory>
-    requires { (1 ≤ workers) × (workers ≤ 32) }
+    requires workers { (1 ≤ workers) × (workers ≤ most_workers) }
+    requires plain { is_reduced kind ≡ false }
     ensures { IfOk result (λ made. IsOpened (plan_terms kind cancel_after suspend_after workers) workers
         made.future made.passes.items made.reporter made.caller) }
 {

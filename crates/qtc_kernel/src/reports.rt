@@ -11,7 +11,7 @@ use crate::board::Board;
 use qtc_base::{Bytes, List, NoMemory};
 use qtc_claim::Piece;
 use qtc_future::Reply;
-use qtc_ops::ItemFn;
+use qtc_ops::{Fold, ItemFn};
 use qtc_outside::Gate;
 use qtc_shared::Pass;
 use std::sync::Wait;
@@ -43,12 +43,12 @@ fn still_all(all_reported: bool, reply: Reply) -> bool
     all_reported && is_accepted(reply)
 }
 
-impl<'a, F: ItemFn, G: Gate> Engine<'a, F, G> {
+impl<'a, F: ItemFn, R: Fold, G: Gate> Engine<'a, F, R, G> {
     /// Reports the values of a piece and gathers it, in one hold of the board, in which the pass meets the one that
     /// reports. False says that an end stands. Err is want of memory, and hands the piece back.
-    pub(crate) fn hand_in<R: Wait>(
+    pub(crate) fn hand_in<W: Wait>(
         &self,
-        rt: &R,
+        rt: &W,
         pass: &mut Pass<Bytes>,
         piece: Piece,
         values: List<Bytes>,
@@ -70,7 +70,7 @@ impl<'a, F: ItemFn, G: Gate> Engine<'a, F, G> {
 
     /// Gathers a piece that isn't reported, in a hold of the board in which the pass, which knows an end, meets the one
     /// that reports.
-    pub(crate) fn gather<R: Wait>(&self, rt: &R, pass: &mut Pass<Bytes>, piece: Piece)
+    pub(crate) fn gather<W: Wait>(&self, rt: &W, pass: &mut Pass<Bytes>, piece: Piece)
         requires of { pass.old.of ≡ self.now.future }
         requires ended { KnowsEnd pass.old }
         requires piece { IsPieceOf self.now piece }
@@ -85,9 +85,9 @@ impl<'a, F: ItemFn, G: Gate> Engine<'a, F, G> {
     }
 
     // Reports the values of a piece, and gathers it.
-    fn report<R: Wait>(
+    fn report<W: Wait>(
         &self,
-        rt: &R,
+        rt: &W,
         board: &mut Board<F>,
         piece: Piece,
         values: List<Bytes>,

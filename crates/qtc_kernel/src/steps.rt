@@ -1,5 +1,5 @@
 //! One turn of a worker.
-ghost use Rattle.std.specs.Prelude.{◌≡◌, ◌+◌, ◌<◌, ◌⊎◌, true, false, None, Some, IsTrue, cond, nat_lt};
+ghost use Rattle.std.specs.Prelude.{◌≡◌, ◌+◌, ◌<◌, true, false, Some, IsTrue, cond, nat_lt};
 ghost use Rattle.qtc_events.specs.Flags.{flags_in};
 ghost use Rattle.qtc_kernel.specs.EngineParts.{HasMetEnd, IsDesk, IsFailedCall, shows_end, work_of};
 ghost use Rattle.qtc_kernel.specs.Turns.{IsLastTurn, IsTurn, LooksEnded, LooksFree, goes_on, wants_after};
@@ -12,7 +12,7 @@ use crate::{Desk, Engine, Turn};
 use qtc_base::{Bytes, NoMemory};
 use qtc_claim::Piece;
 use qtc_events::Flags;
-use qtc_ops::ItemFn;
+use qtc_ops::{Fold, ItemFn};
 use qtc_outside::Gate;
 use qtc_shared::Pass;
 use std::sync::Wait;
@@ -48,13 +48,13 @@ fn is_did(turn: Turn) -> bool
     }
 }
 
-impl<'a, F: ItemFn, G: Gate> Engine<'a, F, G> {
+impl<'a, F: ItemFn, R: Fold, G: Gate> Engine<'a, F, R, G> {
     /// One turn of a worker that is in: it looks whether an end stands, waits where the future is suspended, claims a
     /// block of the size whose turn it is, calls the function on each index of it, ascending, entering the gate with
     /// the job and the index just before each call, and reports what was kept. No contract sees the gate.
     ///
     /// After every answer but `Did` the worker is out. For want of memory it cancels the future, and for nothing else.
-    pub fn step<R: Wait>(&self, rt: &R, desk: &mut Desk<F>) -> Turn
+    pub fn step<W: Wait>(&self, rt: &W, desk: &mut Desk<F>) -> Turn
         requires desk { IsDesk F.value F.called self.now desk.old }
         requires is_in { desk.old.badge.is_in ≡ true }
         ensures desk { IsDesk F.value F.called self.now desk.new }
@@ -71,7 +71,7 @@ impl<'a, F: ItemFn, G: Gate> Engine<'a, F, G> {
     }
 
     /// Takes turns until an answer other than `Did`, which it gives.
-    pub fn work<R: Wait>(&self, rt: &R, desk: &mut Desk<F>) -> Turn
+    pub fn work<W: Wait>(&self, rt: &W, desk: &mut Desk<F>) -> Turn
         requires desk { IsDesk F.value F.called self.now desk.old }
         requires is_in { desk.old.badge.is_in ≡ true }
         ensures desk { IsDesk F.value F.called self.now desk.new }
@@ -99,7 +99,7 @@ impl<'a, F: ItemFn, G: Gate> Engine<'a, F, G> {
     }
 
     // The turn, before a worker leaves.
-    fn turn<R: Wait>(&self, rt: &R, desk: &mut Desk<F>) -> Turn
+    fn turn<W: Wait>(&self, rt: &W, desk: &mut Desk<F>) -> Turn
         requires desk { IsDesk F.value F.called self.now desk.old }
         ensures desk { IsDesk F.value F.called self.now desk.new }
         ensures number { desk.new.pass.number ≡ desk.old.pass.number }
@@ -119,7 +119,7 @@ impl<'a, F: ItemFn, G: Gate> Engine<'a, F, G> {
     }
 
     // Looks whether Canceled or Finished stands, and where a suspension does, again after it.
-    fn meets_end<R: Wait>(&self, rt: &R, pass: &mut Pass<Bytes>) -> bool
+    fn meets_end<W: Wait>(&self, rt: &W, pass: &mut Pass<Bytes>) -> bool
         requires { pass.old.of ≡ self.now.future }
         ensures looked { HasLooked pass.old pass.new }
         ensures end { IsTrue result → LooksEnded pass.old pass.new × HasMetEnd pass.new }
@@ -134,7 +134,7 @@ impl<'a, F: ItemFn, G: Gate> Engine<'a, F, G> {
     }
 
     // Works on the piece in hand, and hands in what was kept.
-    fn work_on<R: Wait>(&self, rt: &R, desk: &mut Desk<F>, piece: Piece) -> Turn
+    fn work_on<W: Wait>(&self, rt: &W, desk: &mut Desk<F>, piece: Piece) -> Turn
         requires { IsAtWork F.value F.called self.now desk.old piece }
         ensures desk { IsDesk F.value F.called self.now desk.new }
         ensures stays { StaysAtWork desk.old desk.new result }
@@ -161,7 +161,7 @@ impl<'a, F: ItemFn, G: Gate> Engine<'a, F, G> {
     }
 
     // Fails the future with the bad item at the index, and gathers the piece.
-    fn fail<R: Wait>(&self, rt: &R, desk: &mut Desk<F>, piece: Piece, index: u32) -> Turn
+    fn fail<W: Wait>(&self, rt: &W, desk: &mut Desk<F>, piece: Piece, index: u32) -> Turn
         requires desk { IsLeaving F.value F.called self.now desk.old piece }
         requires bad { let work = work_of F.value self.now in
             IsFailedCall work (F.called desk.old.function) (record { index = index; item = item_at work index }) }
@@ -178,7 +178,7 @@ impl<'a, F: ItemFn, G: Gate> Engine<'a, F, G> {
     }
 
     // Cancels the future for want of memory, and gathers the piece.
-    fn give_up<R: Wait>(&self, rt: &R, desk: &mut Desk<F>, piece: Piece) -> Turn
+    fn give_up<W: Wait>(&self, rt: &W, desk: &mut Desk<F>, piece: Piece) -> Turn
         requires { IsLeaving F.value F.called self.now desk.old piece }
         ensures desk { IsDesk F.value F.called self.now desk.new }
         ensures turn { HasGivenUp desk.old desk.new result }

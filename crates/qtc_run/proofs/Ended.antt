@@ -1,6 +1,6 @@
 -- What a report comes to.
-use Rattle.std.proofs.Common.{◌≡◌, ℕ, suc, ◌<◌, ◌≤◌, ◌⊎◌, ⊎_elim, Bool, true, false, List, [], ◌∷◌, length, Option, None, refl, ap, sym, subst, ◌∙◌, arith}
-use Rattle.std.specs.Prelude.{All, Contains, map}
+use Rattle.std.proofs.Common.{◌≡◌, ℕ, ◌<◌, ◌≤◌, ◌⊎◌, ⊎_elim, Bool, true, false, List, [], ◌∷◌, length, Option, None, refl, ap, sym, subst, ◌∙◌, arith}
+use Rattle.std.specs.Prelude.{Contains}
 use Rattle.std.proofs.lemmas.Bool.{true≢false}
 use Rattle.std.proofs.lemmas.List.{length-map}
 use Rattle.qtc_future.specs.Future.{Future}
@@ -11,14 +11,14 @@ use Rattle.qtc_job_file.specs.declared.jobs.ChainOp.TheVariants.{Then, OnFailed,
 use Rattle.qtc_job_file.specs.declared.jobs.Job.{Job}
 use Rattle.qtc_kernel.specs.Workload.{Workload, kept_texts}
 use Rattle.qtc_run.specs.Chains.{after_step, chained}
-use Rattle.qtc_run.specs.Failing.{IsFailing, failing_indexes}
+use Rattle.qtc_run.specs.Failing.{failing_indexes}
 use Rattle.qtc_run.specs.FoldOrders.{AreInOrder, is_unordered}
 use Rattle.qtc_run.specs.GoodRuns.{IsGood}
-use Rattle.qtc_run.specs.Laws.{AnswersAs, EndsPlainly, Finishes, GoodJobsFinish, IsFailure, IsPlainReport, ReportsAreSequential, RunnableJobsArePlain}
-use Rattle.qtc_run.specs.Outputs.{IsReportIn, is_canceled_end, is_unfinished}
-use Rattle.qtc_run.specs.Reports.{EndsWith, HasValues, future_of, IsReport, IsUnreached, pair_of, shown_partly}
+use Rattle.qtc_run.specs.Laws.{AnswersAs, EndsPlainly, GoodJobsFinish, IsFailure, IsPlainReport, ReportsAreSequential, RunnableJobsArePlain}
+use Rattle.qtc_run.specs.Outputs.{is_unfinished}
+use Rattle.qtc_run.specs.Reports.{EndsWith, HasValues, future_of, IsReport, pair_of, shown_partly}
 use Rattle.qtc_run.specs.Sequential.{ended_with, full_count, sequential, values_after}
-use Rattle.qtc_run.specs.Sources.{Source, Texts, choice_of, given, items_of, outcomes_of, source_of, work_over}
+use Rattle.qtc_run.specs.Sources.{Source, Texts, choice_of, given, items_of, outcomes_of, work_over}
 use Rattle.qtc_run.specs.declared.reports.JobReport.{JobReport}
 use Rattle.qtc_run.proofs.Plain.{IsPlain, are-failing, no-choice, ordered-alone, runnable-plain, source-given, texts-alone}
 

@@ -1,11 +1,10 @@
 -- Jobs that are run so far: over texts, without a fold, a threshold, a watcher or a chain.
-use Rattle.std.proofs.Common.{◌≡◌, ℕ, ◌<◌, Bool, true, false, eqb, List, [], ◌∷◌, length, get_or, Option, None, Some, refl, ap, sym, subst, ◌∙◌, arith}
-use Rattle.std.specs.Prelude.{Contains, IsTrue, is_none}
+use Rattle.std.proofs.Common.{◌≡◌, ℕ, true, false, eqb, List, [], ◌∷◌, length, Option, None, Some, refl, ap, sym, subst, ◌∙◌, arith}
+use Rattle.std.specs.Prelude.{is_none}
 use Rattle.std.proofs.lemmas.Bool.{and_parts, true≢false}
 use Rattle.std.proofs.lemmas.Bool.Decides.{nat_tests}
 use Rattle.qtc_future.specs.declared.replies.Failure.{Failure}
 use Rattle.qtc_future.specs.declared.replies.Outcome.{Outcome}
-use Rattle.qtc_job_file.specs.declared.jobs.ChainOp.{ChainOp}
 use Rattle.qtc_job_file.specs.declared.jobs.Input.{Input}
 use Rattle.qtc_job_file.specs.declared.jobs.Input.TheVariants as input
 use Rattle.qtc_job_file.specs.declared.jobs.Job.{Job}
@@ -14,11 +13,10 @@ use Rattle.qtc_kernel.specs.Workload.{bad_indexes}
 use Rattle.qtc_ops.specs.ItemValue.{ItemValue, kept, dropped, bad}
 use Rattle.qtc_ops.specs.Kept.{fails, fails_at}
 use Rattle.qtc_ops.specs.Operations.{value_of}
-use Rattle.qtc_ops.specs.declared.fold_ops.FoldOp.{FoldOp}
 use Rattle.qtc_ops.proofs.KeptLemmas.{fails-contain}
 use Rattle.qtc_run.specs.Failing.{IsFailing, failing_indexes, fails_in, is_refused}
 use Rattle.qtc_run.specs.FoldOrders.{is_unordered}
-use Rattle.qtc_run.specs.Laws.{Fails, FailuresAreOfItemsThatFail}
+use Rattle.qtc_run.specs.Laws.{FailuresAreOfItemsThatFail}
 use Rattle.qtc_run.specs.RunOrder.{round_after}
 use Rattle.qtc_run.specs.Runnable.{is_runnable, reads_texts}
 use Rattle.qtc_run.specs.Sequential.{values_after}

@@ -11,7 +11,7 @@ use Rattle.qtc_run.specs.Reports.{IsReport}
 use Rattle.qtc_run.specs.ReportTexts.{job_text}
 use Rattle.qtc_run.specs.Rounds.{IsReportFor, IsSourceOf}
 use Rattle.qtc_run.specs.Runnable.{are_runnable, is_runnable}
-use Rattle.qtc_run.specs.Sources.{Source, Texts, choice_of, given, items_of, outcomes_of, source_of}
+use Rattle.qtc_run.specs.Sources.{Source, Texts, choice_of, given, items_of, outcomes_of}
 use Rattle.qtc_run.specs.declared.rounds.RoundJob.{RoundJob}
 use Rattle.qtc_run.proofs.Plain.{no-choice, runnable-plain, source-given}
 

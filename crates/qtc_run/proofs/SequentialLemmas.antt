@@ -15,7 +15,7 @@ use Rattle.qtc_job_file.specs.declared.jobs.Job.{Job}
 use Rattle.qtc_ops.specs.Operations.{value_of}
 use Rattle.qtc_run.specs.Failing.{failing_indexes, fails_in, is_refused}
 use Rattle.qtc_run.specs.Laws.{EndsAs, JobsFailAtTheFirst}
-use Rattle.qtc_run.specs.Sequential.{ended_with, sequential}
+use Rattle.qtc_run.specs.Sequential.{ended_with}
 
 -- ---- the calls
 

@@ -1,11 +1,11 @@
 -- Runs of jobs over texts: in the order of the file, with the items of the texts.
-use Rattle.std.proofs.Common.{◌≡◌, ℕ, zero, suc, ◌+◌, ◌<◌, ◌≤◌, ◌⊎◌, inl, inr, Bool, true, false, eqb, List, [], ◌∷◌, ◌++◌, length, get_or, take, drop, replicate, Some, refl, ap, sym, subst, ◌∙◌, ⊎_elim, append_assoc, append-nil, length-append, arith}
-use Rattle.std.specs.Prelude.{All, filter, map, slice_get, slice_index}
+use Rattle.std.proofs.Common.{◌≡◌, ℕ, zero, suc, ◌+◌, ◌<◌, ◌≤◌, inl, inr, Bool, true, false, eqb, List, [], ◌∷◌, ◌++◌, length, get_or, take, drop, replicate, Some, refl, ap, sym, subst, ◌∙◌, append_assoc, append-nil, length-append, arith}
+use Rattle.std.specs.Prelude.{All, filter, slice_get, slice_index}
 use Rattle.std.specs.List.{flat_map, range_with_len}
-use Rattle.std.proofs.lemmas.Bool.{and_parts, true≢false}
+use Rattle.std.proofs.lemmas.Bool.{and_parts}
 use Rattle.std.proofs.lemmas.Bool.Decides.{nat_tests}
 use Rattle.std.proofs.lemmas.Grind.{flat_map-append}
-use Rattle.std.proofs.lemmas.List.{get_or-map, get_or-replicate, take-append-drop}
+use Rattle.std.proofs.lemmas.List.{get_or-map, take-append-drop}
 use Rattle.std.proofs.lemmas.List.Elements.{All-nil, All-cons, All-head, All-tail}
 use Rattle.std.proofs.lemmas.List.FromFn.{length-range_with_len, get_or-range_with_len}
 use Rattle.std.proofs.lemmas.List.Sums.{sum_by-append}
@@ -14,9 +14,8 @@ use Rattle.qtc_base.specs.Items.{PassesLimit, total_bytes}
 use Rattle.qtc_future.specs.declared.replies.Outcome.{Outcome}
 use Rattle.qtc_job_file.specs.declared.jobs.Job.{Job}
 use Rattle.qtc_kernel.specs.Workload.{bad_indexes}
-use Rattle.qtc_run.specs.GoodRuns.{AreGood, IsGood, IsGoodOver}
-use Rattle.qtc_run.specs.Laws.{IsOverTexts, RunnableRunsAreOverTexts}
-use Rattle.qtc_run.specs.Outputs.{AreReportsBefore}
+use Rattle.qtc_run.specs.GoodRuns.{AreGood, IsGoodOver}
+use Rattle.qtc_run.specs.Laws.{RunnableRunsAreOverTexts}
 use Rattle.qtc_run.specs.Runnable.{are_runnable, is_runnable}
 use Rattle.qtc_run.specs.RunOrder.{places_in, round_at, rounds_below, rounds_of, run_order}
 use Rattle.qtc_run.specs.Sources.{Source, Texts, given, items_in, items_of, items_of_all, outcomes_of, source_of, work_over}

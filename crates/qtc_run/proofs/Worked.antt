@@ -1,6 +1,7 @@
 -- What the workers of an engine make of a job is what may be reported of it.
 use Rattle.std.proofs.Common.{◌≡◌, ◌≢◌, ℕ, zero, suc, ◌<◌, ◌≤◌, inl, Bool, true, false, List, [], ◌∷◌, length, get_or, Option, None, Some, refl, ap, sym, subst, ◌∙◌, map, ⊎_elim, arith}
-use Rattle.std.specs.Prelude.{All, IsTrue, ◌&&◌, if◌then◌else◌}
+use Rattle.std.specs.Prelude.{All, IsTrue, ◌&&◌, if◌then◌else◌, is_none}
+use Rattle.qtc_base.specs.Limits.{most_items}
 use Rattle.std.proofs.lemmas.Bool.{and_parts, cases_lt, true≢false}
 use Rattle.std.proofs.lemmas.List.{same_lists}
 use Rattle.std.proofs.lemmas.Option.{slice_get-get_or}
@@ -15,7 +16,7 @@ use Rattle.qtc_future.specs.declared.replies.Outcome.{Outcome}
 use Rattle.qtc_future.specs.declared.replies.Outcome.TheVariants.{Values, Failed, Canceled}
 use Rattle.qtc_job_file.specs.declared.jobs.Job.{Job}
 use Rattle.qtc_kernel.specs.EngineParts.{EngineParts}
-use Rattle.qtc_kernel.specs.Driving.{is_filter}
+use Rattle.qtc_kernel.specs.OwnPasses.{drops_items, is_filter}
 use Rattle.qtc_kernel.specs.WorkedOut.{IsWorkedOut, IsOpenedAndFinished as IsOpened}
 use Rattle.qtc_kernel.specs.Workload.{Suits, Workload, kept_texts, workload}
 use Rattle.qtc_kernel.specs.declared.finish.Finished.{Finished}
@@ -37,7 +38,7 @@ use Rattle.qtc_run.specs.Journals.{IsOpenedAndFinished, LetsGoOn}
 use Rattle.qtc_run.specs.Laws.{IsMadeOf, WorkedJobsAreReported}
 use Rattle.qtc_run.specs.Outputs.{is_canceled_end}
 use Rattle.qtc_run.specs.Reports.{AreReported, EndsWith, future_of, is_keep, pair_of, shown_partly}
-use Rattle.qtc_run.specs.Rounds.{HasDone, IsEngineFor, IsReady, IsReportFor, terms_of, work_in}
+use Rattle.qtc_run.specs.Rounds.{HasDone, IsEngineFor, IsReady, IsReportFor, kind_in, kind_with, terms_of, work_in}
 use Rattle.qtc_run.specs.Runnable.{are_runnable, is_runnable}
 use Rattle.qtc_run.specs.Sources.{given, work_over}
 use Rattle.qtc_run.specs.declared.reports.JobReport.{JobReport}
@@ -57,14 +58,16 @@ first-unique store xs ys first second =
     some-same _ _ (sym (slice_get-get_or xs k d lt) ∙ (first.each k lt ∙ (sym (second.each k within) ∙ slice_get-get_or ys k d within))))
 
 -- the future of the engine is that of the job
-and-true : (b : Bool) → (b && true) ≡ b
-and-true true = refl
-and-true false = refl
+mode-of : (keeps whole : Bool) → (keeps && whole) ≡ is_filter (kind_with keeps whole)
+mode-of false true = refl
+mode-of true true = refl
+mode-of false false = refl
+mode-of true false = refl
 
-plain-future : (job : Job) (workers : ℕ) (journal : List (Logged (List ℕ))) → IsPlain job → future_of job journal ≡ future_at (terms_of workers job) journal
-plain-future job workers journal plain =
+plain-future : (job : Job) (workers : ℕ) (journal : List (Logged (List ℕ))) → future_of job journal ≡ future_at (terms_of workers job) journal
+plain-future job workers journal =
     let with_mode : Bool → Future (List ℕ) = λ filter. record { filter = filter; thresholds = record { cancel_after = job.cancel_after; suspend_after = job.suspend_after }; calls = journal } in
-    ap with_mode (ap (λ b. is_keep job.op && b) plain.whole ∙ and-true (is_keep job.op))
+    ap with_mode (mode-of (is_keep job.op) (is_none job.fold))
 
 -- ---- the journal
 
@@ -82,7 +85,7 @@ in-order : (unordered : Bool) (work : Workload) (sizes : List ℕ) (order : Opti
 in-order false work sizes order is none = (none, refl)
 in-order true work sizes order is none = absurd (true≢false is)
 
-ends : (job : Job) (items : List (List ℕ)) (workers : ℕ) (journal : List (Logged (List ℕ))) (report : JobReport) (outcome : Outcome (List ℕ)) → IsPlain job → IsWorkedOut (work_over job items) job.blocks (terms_of workers job) journal report.calls → report.journal ≡ entries_of journal → report.order ≡ None → is_canceled_end outcome ≡ false → IsOutcome (future_at (terms_of workers job) journal) outcome → EndsWith job items report (future_at (terms_of workers job) journal) outcome
+ends : (job : Job) (items : List (List ℕ)) (workers : ℕ) (journal : List (Logged (List ℕ))) (report : JobReport) (outcome : Outcome (List ℕ)) → IsPlain job → IsWorkedOut (work_over job items) job.blocks (kind_in job) (terms_of workers job) journal report.calls → report.journal ≡ entries_of journal → report.order ≡ None → is_canceled_end outcome ≡ false → IsOutcome (future_at (terms_of workers job) journal) outcome → EndsWith job items report (future_at (terms_of workers job) journal) outcome
 ends job items workers journal report (Values values) plain worked journal_is order going is =
     let whole = worked.whole is.1 in
     record {
@@ -108,7 +111,7 @@ not-shown job items future Canceled going = absurd (true≢false going)
 pub worked-reported : WorkedJobsAreReported
 worked-reported job items report workers journal ready worked made going =
     let plain = runnable-plain job ready in
-    let same : future_of job journal ≡ future_at (terms_of workers job) journal = plain-future job workers journal plain in
+    let same : future_of job journal ≡ future_at (terms_of workers job) journal = plain-future job workers journal in
     record {
       logged = journal;
       legal = subst IsLegal (sym same) worked.lawful.legal;
@@ -141,19 +144,19 @@ map-keeps (Field place) item is = cc
 map-keeps Number item is = number-keeps (is_number item) (decimal_text (number_of item)) is
 
 -- a map drops no item
-pub op-suits : (op : ItemOp) (kind : Kind) (items : List (List ℕ)) → is_filter kind ≡ is_keep op → Suits (is_filter kind) (workload items (value_of op))
+pub op-suits : (op : ItemOp) (kind : Kind) (items : List (List ℕ)) → kind ≡ kind_with (is_keep op) true → Suits (drops_items kind) (workload items (value_of op))
 op-suits (Map op) kind items same plain = λ k d within. map-keeps op (get_or items k d)
-op-suits (Keep inverted pred) kind items same plain = absurd (true≢false (sym same ∙ plain))
+op-suits (Keep inverted pred) kind items same plain = absurd (true≢false (sym (ap drops_items same) ∙ plain))
 
 -- ---- a job over its texts
 
-pub few-items : (items : List (List ℕ)) → (PassesLimit items → ⊥) → length items ≤ 8388608
+pub few-items : (items : List (List ℕ)) → (PassesLimit items → ⊥) → length items ≤ most_items
 few-items items fits =
-    ⊎_elim (λ (many : 8388608 < length items). absurd (fits (inl many))) (λ (few : length items ≤ 8388608). few) (cases_lt 8388608 (length items))
+    ⊎_elim (λ (many : most_items < length items). absurd (fits (inl many))) (λ (few : length items ≤ most_items). few) (cases_lt most_items (length items))
 
-pub value-suits : (op : ItemOp) (kind : Kind) (items : List (List ℕ)) (value : List ℕ → ItemValue) → is_filter kind ≡ is_keep op → value ≡ value_of op → Suits (is_filter kind) (workload items value)
+pub value-suits : (op : ItemOp) (kind : Kind) (items : List (List ℕ)) (value : List ℕ → ItemValue) → kind ≡ kind_with (is_keep op) true → value ≡ value_of op → Suits (drops_items kind) (workload items value)
 value-suits op kind items value same value_is =
-    subst (λ (value : List ℕ → ItemValue). Suits (is_filter kind) (workload items value)) (sym value_is) (op-suits op kind items same)
+    subst (λ (value : List ℕ → ItemValue). Suits (drops_items kind) (workload items value)) (sym value_is) (op-suits op kind items same)
 
 pub runnable-at : (jobs : List Job) (place : ℕ) (job : Job) → are_runnable jobs ≡ true → place < length jobs → job ≡ get_or jobs place job → is_runnable job ≡ true
 runnable-at [] place job all within is = absurd (omega arith)
@@ -166,10 +169,12 @@ pub closed-report : {F : Type 0} (value : F → List ℕ → ItemValue) (workers
 closed-report value workers source parts done core report law ready engine has core_is whole calls made going =
     let terms : Terms = parts.future.terms in
     let known : List (Logged (List ℕ)) = done.pass.known in
-    let first = subst (λ (work : Workload). IsWorkedOut work parts.sizes terms known done.calls) engine.work has.worked in
-    let second = subst (λ (sizes : List ℕ). IsWorkedOut (work_in source) sizes terms known done.calls) engine.sizes first in
-    let third = subst (λ (terms : Terms). IsWorkedOut (work_in source) source.job.now.blocks terms known done.calls) engine.terms second in
-    let fourth = subst (λ (journal : List (Logged (List ℕ))). IsWorkedOut (work_in source) source.job.now.blocks (terms_of workers source.job.now) journal done.calls) (sym (whole has.finished)) third in
-    let fifth = subst (λ (calls : List ℕ). IsWorkedOut (work_in source) source.job.now.blocks (terms_of workers source.job.now) core.calls calls) (sym calls) fourth in
-    law source.job.now source.items report workers core.calls ready.runnable fifth
+    let job = source.job.now in
+    let first = subst (λ (work : Workload). IsWorkedOut work parts.sizes parts.kind terms known done.calls) engine.work has.worked in
+    let second = subst (λ (sizes : List ℕ). IsWorkedOut (work_in source) sizes parts.kind terms known done.calls) engine.sizes first in
+    let third = subst (λ (kind : Kind). IsWorkedOut (work_in source) job.blocks kind terms known done.calls) engine.kind second in
+    let fourth = subst (λ (terms : Terms). IsWorkedOut (work_in source) job.blocks (kind_in job) terms known done.calls) engine.terms third in
+    let fifth = subst (λ (journal : List (Logged (List ℕ))). IsWorkedOut (work_in source) job.blocks (kind_in job) (terms_of workers job) journal done.calls) (sym (whole has.finished)) fourth in
+    let sixth = subst (λ (calls : List ℕ). IsWorkedOut (work_in source) job.blocks (kind_in job) (terms_of workers job) core.calls calls) (sym calls) fifth in
+    law source.job.now source.items report workers core.calls ready.runnable sixth
     (subst (IsMadeOf source.job.now report) (core_is ∙ ap (λ (terms : Terms). future_at terms core.calls) engine.terms) made) going

@@ -1,5 +1,5 @@
 -- The laws of sources, sequential answers and reports. (Own.)
-use Rattle.std.specs.Prelude.{◌≡◌, ◌≢◌, ℕ, ◌+◌, ◌-◌, ◌<◌, ◌≤◌, ◌==◌, ◌&&◌, Bool, true, false, nat_lt, if◌then◌else◌, List, [], ◌∷◌, ◌++◌, All, IsTrue, Option, None, length, slice_index_or, take}
+use Rattle.std.specs.Prelude.{◌≡◌, ℕ, ◌+◌, ◌-◌, ◌<◌, ◌≤◌, ◌==◌, ◌&&◌, Bool, true, false, nat_lt, if◌then◌else◌, List, [], ◌∷◌, ◌++◌, All, IsTrue, Option, None, length, slice_index_or, take}
 use Rattle.std.specs.List.{concat, count_by, range_with_len}
 use Rattle.qtc_base.specs.Items.{PassesLimit, total_bytes}
 use Rattle.qtc_base.specs.Lines.{lines}
@@ -25,7 +25,7 @@ use Rattle.qtc_run.specs.GoodRuns.{AreGood, IsGood}
 use Rattle.qtc_run.specs.Outputs.{AreReports, IsReportIn, is_canceled_end, is_unfinished}
 use Rattle.qtc_run.specs.Reports.{IsReport}
 use Rattle.qtc_run.specs.ReportTexts.{job_text, report_text}
-use Rattle.qtc_run.specs.Rounds.{terms_of}
+use Rattle.qtc_run.specs.Rounds.{kind_in, terms_of}
 use Rattle.qtc_run.specs.Runnable.{are_runnable, is_runnable}
 use Rattle.qtc_run.specs.RunOrder.{run_order}
 use Rattle.qtc_run.specs.Sequential.{full_count, sequential, values_after}
@@ -146,7 +146,7 @@ abbrev pub WorkedJobsAreReported : Type 0
 WorkedJobsAreReported =
     (job : Job) (items : List (List ℕ)) (report : JobReport) (workers : ℕ) (journal : List (Logged (List ℕ))) →
     IsTrue (is_runnable job) →
-    IsWorkedOut (work_over job items) job.blocks (terms_of workers job) journal report.calls →
+    IsWorkedOut (work_over job items) job.blocks (kind_in job) (terms_of workers job) journal report.calls →
     IsMadeOf job report (future_at (terms_of workers job) journal) → is_canceled_end report.ended ≡ false →
     IsReport job (given items) None report
 

@@ -1,5 +1,5 @@
 -- What may be reported of a job, whoever worked on it. (Own.)
-use Rattle.std.specs.Prelude.{◌≡◌, ◌<◌, ◌≤◌, ◌⊎◌, ℕ, Bool, true, false, ◌&&◌, is_none, List, [], All, map, filter, Option, None, Some, if◌then◌else◌}
+use Rattle.std.specs.Prelude.{◌≡◌, ◌<◌, ◌≤◌, ◌⊎◌, ℕ, Bool, true, false, ◌&&◌, is_none, List, [], All, map, filter, Option, None, if◌then◌else◌}
 use Rattle.std.specs.List.{enumerate_from, list_any}
 use Rattle.qtc_base.specs.Ranges.{Tiles, in_range, times_covered}
 use Rattle.qtc_future.specs.Ends.{IsOutcome}

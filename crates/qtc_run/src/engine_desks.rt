@@ -4,7 +4,7 @@ ghost use Rattle.qtc_run.specs.Rounds.{IsFree};
 
 use crate::slots::Slot;
 use qtc_kernel::{Desk, Engine};
-use qtc_ops::ItemFn;
+use qtc_ops::{FoldOp, ItemFn};
 use qtc_outside::Gate;
 use qtc_pool::Pool;
 use std::marker::Model;
@@ -13,7 +13,7 @@ use std::sync::Wait;
 /// An engine, and a desk of it whose worker is out. Contracts see the engine.
 #[derive(Drop)]
 pub(crate) struct EngineDesk<'e, 'a, F: ItemFn, G: Gate> {
-    engine: &'e Engine<'a, F, G>,
+    engine: &'e Engine<'a, F, FoldOp, G>,
     desk: Desk<F>,
 }
 
@@ -31,7 +31,7 @@ impl<'e, 'a, F: ItemFn, G: Gate> Model for EngineDesk<'e, 'a, F, G> {
 
 impl<'e, 'a, F: ItemFn, G: Gate> EngineDesk<'e, 'a, F, G> {
     /// An engine with a free desk of it.
-    pub fn new(engine: &'e Engine<'a, F, G>, desk: Desk<F>) -> EngineDesk<'e, 'a, F, G>
+    pub fn new(engine: &'e Engine<'a, F, FoldOp, G>, desk: Desk<F>) -> EngineDesk<'e, 'a, F, G>
         requires { IsFree F.value F.called engine.now desk }
         ensures { result ≡ engine.now }
     {

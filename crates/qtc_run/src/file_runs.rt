@@ -1,5 +1,6 @@
-ghost use Rattle.std.specs.Prelude.{◌≡◌, ◌≤◌, length, IsTrue, All, IfOk, OnOk, IfErr};
+ghost use Rattle.std.specs.Prelude.{◌≡◌, ◌≤◌, length, IsTrue, All, IfOk, IfErr};
 ghost use Rattle.qtc_base.specs.Items.{PassesLimit};
+ghost use Rattle.qtc_base.specs.Limits.{most_workers};
 ghost use Rattle.qtc_job_file.specs.Laws.{IsBounded};
 ghost use Rattle.qtc_job_file.specs.Lawful.{Lawful};
 ghost use Rattle.qtc_run.specs.Loaded.{HasAll};
@@ -67,7 +68,7 @@ pub fn run_file<G: Gate, R: Threads + Wait + Sync>(
     requires lawful { Lawful file.now }
     requires runnable { IsTrue (are_runnable file.now.jobs) }
     requires loaded { HasAll loaded.now (names_of_all file.now.jobs) }
-    requires workers { (1 ≤ workers) × (workers ≤ 32) }
+    requires workers { (1 ≤ workers) × (workers ≤ most_workers) }
     ensures reports { IfOk result (λ report. AreReports loaded.now file.now.jobs report.jobs) }
     ensures pool { IfOk result (λ report. IsPoolRun workers report.pool) }
     ensures number { IfOk result (λ report. length report.jobs ≡ length file.now.jobs) }

@@ -1,10 +1,9 @@
-ghost use Rattle.std.specs.Prelude.{◌≡◌, [], IfOk, if◌then◌else◌};
-ghost use Rattle.qtc_kernel.specs.Driving.{is_filter};
+ghost use Rattle.std.specs.Prelude.{◌≡◌, [], true, IfOk, if◌then◌else◌};
 ghost use Rattle.qtc_future.specs.Future.{events_of, journal_of};
 ghost use Rattle.qtc_run.specs.Laws.{IsMadeOf};
 ghost use Rattle.qtc_run.specs.Outputs.{is_canceled_end};
 ghost use Rattle.qtc_run.specs.Reports.{is_keep};
-ghost use Rattle.qtc_run.specs.Rounds.{HasDone, IsEngineFor, IsReady, IsReportFor};
+ghost use Rattle.qtc_run.specs.Rounds.{HasDone, IsEngineFor, IsReady, IsReportFor, kind_with};
 
 use crate::JobReport;
 use crate::laws::worked_jobs_are_reported;
@@ -14,14 +13,14 @@ use qtc_events::{Entry, Event};
 use qtc_future::{FutureCore, Outcome};
 use qtc_job_file::Job;
 use qtc_kernel::{Engine, Finished, Kind};
-use qtc_ops::{ItemFn, ItemOp};
+use qtc_ops::{FoldOp, ItemFn, ItemOp};
 use qtc_outside::Gate;
 use std::alloc::Global;
 use std::sync::Wait;
 
-/// What an engine makes of the items of an operation.
+/// What an engine makes of the items of an operation, without a fold.
 pub fn kind_of(op: &ItemOp) -> Kind
-    ensures { is_filter result ≡ is_keep op.now }
+    ensures { result ≡ kind_with (is_keep op.now) true }
 {
     match op {
         ItemOp::Map(_) => Kind::Mapped,
@@ -93,7 +92,7 @@ pub fn report_of<F: ItemFn + Drop, G: Gate, R: Wait>(
     alloc: Global,
     rt: &R,
     source: &RoundJob<'_>,
-    engine: Engine<'_, F, G>,
+    engine: Engine<'_, F, FoldOp, G>,
     done: Finished<F>,
     workers: u32,
 ) -> Result<JobReport, NoMemory>

@@ -1,6 +1,7 @@
 //! A round of jobs: an engine for each, and one pool whose workers have a desk at each engine.
 ghost use Rattle.std.specs.Prelude.{List as PlainList, ◌≡◌, ◌<◌, ◌≤◌, ◌++◌, [], All, IfOk, OnOk, drop, length, replicate, take};
 ghost use Rattle.std.specs.Vec.Iter.{into_iter_items};
+ghost use Rattle.qtc_base.specs.Limits.{most_workers};
 ghost use Rattle.qtc_kernel.specs.EngineParts.{EngineParts};
 ghost use Rattle.qtc_ops.specs.Operations.{value_of};
 ghost use Rattle.qtc_run.specs.Pairing.{EachPair};
@@ -15,7 +16,7 @@ use crate::{JobReport, Report};
 use qtc_base::{Items, List, NoMemory, Value};
 use qtc_job_file::Job;
 use qtc_kernel::{Desk, Engine, Finished, Plan};
-use qtc_ops::{ItemFn, ItemOp, OpFn};
+use qtc_ops::{FoldOp, ItemFn, ItemOp, OpFn};
 use qtc_outside::Gate;
 use qtc_pool::Pool;
 use qtc_pool_core::PoolEntry;
@@ -35,7 +36,7 @@ pub(crate) struct RoundJob<'j> {
 /// The engines of the jobs, and their desks, job by job.
 #[derive(Drop)]
 struct Opened<'a, G: Gate> {
-    engines: Vec<Engine<'a, OpFn, G>>,
+    engines: Vec<Engine<'a, OpFn, FoldOp, G>>,
     desks: Vec<Desk<OpFn>>,
 }
 
@@ -60,9 +61,9 @@ fn open_job<'a, G: Gate>(
     source: &'a RoundJob<'a>,
     workers: u32,
     gate: &'a G,
-) -> Result<(Engine<'a, OpFn, G>, Vec<Desk<OpFn>>), NoMemory>
+) -> Result<(Engine<'a, OpFn, FoldOp, G>, Vec<Desk<OpFn>>), NoMemory>
     requires ready { IsReady source.now }
-    requires workers { (1 ≤ workers) × (workers ≤ 32) }
+    requires workers { (1 ≤ workers) × (workers ≤ most_workers) }
     ensures engine { IfOk result (λ made. IsEngineFor ⟦<OpFn as ItemFn>⟧.value workers source.now made.0) }
     ensures desks { IfOk result (λ made.
         AreFree ⟦<OpFn as ItemFn>⟧.value ⟦<OpFn as ItemFn>⟧.called made.0 made.1.items) }
@@ -75,8 +76,10 @@ fn open_job<'a, G: Gate>(
         job: source.place,
         workers,
         blocks: List::from_vec(blocks),
+        ordered: source.job.ordered,
         cancel_after: source.job.cancel_after,
         suspend_after: source.job.suspend_after,
+        fold: None,
     };
     let (engine, desks, _pass) = Engine::new(alloc, plan, functions, gate)?;
     Ok((engine, desks))
@@ -90,7 +93,7 @@ fn open_all<'a, G: Gate>(
     gate: &'a G,
 ) -> Result<Opened<'a, G>, NoMemory>
     requires ready { All IsReady sources.now }
-    requires workers { (1 ≤ workers) × (workers ≤ 32) }
+    requires workers { (1 ≤ workers) × (workers ≤ most_workers) }
     ensures engines { IfOk result (λ opened.
         EachPair (IsEngineFor ⟦<OpFn as ItemFn>⟧.value workers) sources.now opened.engines.items) }
     ensures desks { IfOk result (λ opened.
@@ -115,7 +118,7 @@ fn queue_all<R: Wait>(
     workers: u32,
 ) -> Result<Pool<Slot>, NoMemory>
     requires ready { All IsReady sources.now }
-    requires workers { (1 ≤ workers) × (workers ≤ 32) }
+    requires workers { (1 ≤ workers) × (workers ≤ most_workers) }
     ensures { IfOk result (λ pool. pool.first ≡ workers) }
 {
     let pool = Pool::new(alloc, workers)?;
@@ -127,7 +130,7 @@ fn queue_all<R: Wait>(
 
 /// Binds each of the next so many desks to its engine.
 fn bind_row<'e, 'a, F: ItemFn + Drop, G: Gate>(
-    engine: &'e Engine<'a, F, G>,
+    engine: &'e Engine<'a, F, FoldOp, G>,
     count: u32,
     desks: &mut IntoIter<Desk<F>>,
     bound: &mut Vec<EngineDesk<'e, 'a, F, G>>,
@@ -148,7 +151,7 @@ fn bind_row<'e, 'a, F: ItemFn + Drop, G: Gate>(
 /// Binds each desk to its engine.
 fn bind_all<'e, 'a, F: ItemFn + Drop, G: Gate>(
     alloc: Global,
-    engines: &'e [Engine<'a, F, G>],
+    engines: &'e [Engine<'a, F, FoldOp, G>],
     desks: Vec<Desk<F>>,
     workers: u32,
 ) -> Result<Vec<EngineDesk<'e, 'a, F, G>>, NoMemory>
@@ -168,7 +171,7 @@ fn work_on<'e, 'a, F: ItemFn + Drop, G: Gate, R: Threads + Wait + Sync>(
     alloc: Global,
     rt: &R,
     pool: &Pool<Slot>,
-    engines: &'e [Engine<'a, F, G>],
+    engines: &'e [Engine<'a, F, FoldOp, G>],
     desks: Vec<Desk<F>>,
     workers: u32,
 ) -> Result<Vec<EngineDesk<'e, 'a, F, G>>, NoMemory>
@@ -199,14 +202,14 @@ fn work_round<'e, 'a, G: Gate, R: Threads + Wait + Sync>(
     alloc: Global,
     rt: &R,
     sources: &[RoundJob<'_>],
-    engines: &'e [Engine<'a, OpFn, G>],
+    engines: &'e [Engine<'a, OpFn, FoldOp, G>],
     desks: Vec<Desk<OpFn>>,
     workers: u32,
 ) -> Result<(Vec<EngineDesk<'e, 'a, OpFn, G>>, List<PoolEntry>), NoMemory>
     requires ready { All IsReady sources.now }
     requires desks { EachPair (IsFree ⟦<OpFn as ItemFn>⟧.value ⟦<OpFn as ItemFn>⟧.called)
         (each_times workers engines.now) desks.items }
-    requires workers { (1 ≤ workers) × (workers ≤ 32) }
+    requires workers { (1 ≤ workers) × (workers ≤ most_workers) }
     ensures bound { IfOk result (λ worked. worked.0.items ≡ each_times workers engines.now) }
     ensures pool { IfOk result (λ worked. IsPoolRun workers worked.1) }
 {
@@ -241,7 +244,7 @@ fn desks_at<'e, 'a, F: ItemFn + Drop, G: Gate>(
 fn finish_all<'e, 'a, F: ItemFn + Drop, G: Gate, R: Wait>(
     alloc: Global,
     rt: &R,
-    engines: &[Engine<'a, F, G>],
+    engines: &[Engine<'a, F, FoldOp, G>],
     bound: Vec<EngineDesk<'e, 'a, F, G>>,
     workers: u32,
 ) -> Result<Vec<Finished<F>>, NoMemory>
@@ -264,7 +267,7 @@ fn report_all<'a, F: ItemFn + Drop, G: Gate, R: Wait>(
     alloc: Global,
     rt: &R,
     sources: &[RoundJob<'_>],
-    engines: Vec<Engine<'a, F, G>>,
+    engines: Vec<Engine<'a, F, FoldOp, G>>,
     finished: Vec<Finished<F>>,
     workers: u32,
 ) -> Result<List<JobReport>, NoMemory>
@@ -301,7 +304,7 @@ pub fn run_round<G: Gate, R: Threads + Wait + Sync>(
     gate: &G,
 ) -> Result<Report, NoMemory>
     requires ready { All IsReady sources.now }
-    requires workers { (1 ≤ workers) × (workers ≤ 32) }
+    requires workers { (1 ≤ workers) × (workers ≤ most_workers) }
     ensures reports { IfOk result (λ report. EachPair IsReportFor sources.now report.jobs) }
     ensures pool { IfOk result (λ report. IsPoolRun workers report.pool) }
 {

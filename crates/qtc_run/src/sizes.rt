@@ -1,5 +1,6 @@
 ghost use Rattle.std.specs.Prelude.{◌≡◌, ◌≤◌, ◌==◌, ◌*◌, length, map};
 ghost use Rattle.std.specs.List.{count_by};
+ghost use Rattle.qtc_base.specs.Limits.{most_sources};
 ghost use Rattle.qtc_base.specs.Lines.{lines};
 ghost use Rattle.qtc_run.specs.Laws.{tail_count};
 ghost use Rattle.qtc_run.specs.Loaded.{HasAll, most_text};
@@ -75,9 +76,9 @@ fn line_size(text: &[u8]) -> Size
 /// The size of whole texts.
 fn file_size(names: &[Bytes], loaded: &Loaded) -> Size
     requires named { HasAll loaded.now names.now }
-    requires few { length names.now ≤ 64 }
+    requires few { length names.now ≤ most_sources }
     ensures size { IsSizeOf (map (text_of loaded.now) names.now) result }
-    ensures small { (result.items ≤ most_text) × (result.bytes ≤ 64 * most_text) }
+    ensures small { (result.items ≤ most_text) × (result.bytes ≤ most_sources * most_text) }
 {
     let mut bytes = 0;
     for name in names {
@@ -108,7 +109,7 @@ pub fn size_of(input: &Input, loaded: &Loaded) -> Size
     requires named { HasAll loaded.now (names_of input.now) }
     requires sized { IsSized input.now }
     ensures size { IsSizeOf (items_of loaded.now input.now) result }
-    ensures small { (result.items ≤ most_text) × (result.bytes ≤ 64 * most_text) }
+    ensures small { (result.items ≤ most_text) × (result.bytes ≤ most_sources * most_text) }
 {
     match input {
         Input::Lines(name) => line_size(loaded.text(name.as_slice())),

@@ -1,4 +1,5 @@
 //! The tasks of the pool: which worker of which job.
+ghost use Rattle.qtc_base.specs.Limits.{most_jobs, most_workers};
 ghost use Rattle.std.specs.Prelude.{MatchOption, ◌≡◌, ◌+◌, ◌*◌, ◌<◌, ◌≤◌};
 
 use crate::workers::Worker;
@@ -14,14 +15,14 @@ pub(crate) struct Slot {
     slot: u32,
     priority: i32,
     workers: u32,
-    ghost few: { (job < 64) × (slot < workers) × (workers ≤ 32) },
+    ghost few: { (job < most_jobs) × (slot < workers) × (workers ≤ most_workers) },
 }
 
 impl Slot {
     /// The first slot of a job that is worked on by so many workers.
     pub fn first(job: u32, priority: i32, workers: u32) -> Slot
-        requires few { job < 64 }
-        requires workers { (1 ≤ workers) × (workers ≤ 32) }
+        requires few { job < most_jobs }
+        requires workers { (1 ≤ workers) × (workers ≤ most_workers) }
         ensures job { result.job ≡ job }
         ensures slot { result.slot ≡ 0 }
         ensures priority { result.priority ≡ priority }

@@ -1,4 +1,4 @@
-ghost use Rattle.std.specs.Prelude.{◌≡◌, ◌∷◌, [], ◌++◌, ◌≤◌, IsTrue, length, is_some, IfOk};
+ghost use Rattle.std.specs.Prelude.{◌≡◌, [], ◌≤◌, IsTrue, length, is_some, IfOk};
 ghost use Rattle.std.specs.List.{list_all};
 ghost use Rattle.qtc_job_file.specs.Lawful.{Lawful};
 ghost use Rattle.qtc_outside.specs.Shelf.{text_under};

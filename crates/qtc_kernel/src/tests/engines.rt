@@ -1,7 +1,8 @@
 // Engines, with a thread for each worker or step by step on one.
-ghost use Rattle.std.specs.Prelude.{◌≡◌, ◌<◌, ◌≤◌, [], false, true, All, IfOk, IfSome, length};
+ghost use Rattle.std.specs.Prelude.{◌≡◌, ◌<◌, ◌≤◌, [], false, All, IfOk, IfSome, length};
 ghost use Rattle.qtc_kernel.specs.EngineParts.{AreDesks, IsDesk, IsPlanned};
-ghost use Rattle.qtc_kernel.specs.Driving.{AreSizes, is_filter};
+ghost use Rattle.qtc_kernel.specs.Driving.{AreSizes};
+ghost use Rattle.qtc_kernel.specs.OwnPasses.{drops_items, is_reduced};
 ghost use Rattle.qtc_kernel.specs.Workload.{Suits, workload};
 ghost use Rattle.qtc_ops.specs.Operations.{value_of};
 
@@ -9,7 +10,7 @@ use crate::tests::{are_sizes, bytes_of, gives};
 use crate::{Desk, Engine, Kind, Plan, Turn};
 use qtc_base::{Bytes, Items, List, NoMemory, Range, Value};
 use qtc_future::{FutureCore, Outcome};
-use qtc_ops::{ItemFn, ItemOp, MapOp, OpFn, Pred};
+use qtc_ops::{FoldOp, ItemFn, ItemOp, MapOp, OpFn, Pred};
 use qtc_outside::{Gate, NoGate};
 use qtc_shared::Pass;
 use std::alloc::Global;
@@ -39,13 +40,14 @@ fn plan_over<'a>(
     items: &'a Items,
     workers: u32,
     sizes: &[u32],
-) -> Result<(Plan<'a>, Vec<OpFn>), NoMemory>
+) -> Result<(Plan<'a, FoldOp>, Vec<OpFn>), NoMemory>
     requires workers { (1 ≤ workers) × (workers ≤ 32) }
     requires items { length items.now ≤ 8388608 }
     requires sizes { AreSizes sizes.now }
-    requires suits { Suits (is_filter kind) (workload items.now (value_of op.now)) }
+    requires plain { is_reduced kind ≡ false }
+    requires suits { Suits (drops_items kind) (workload items.now (value_of op.now)) }
     ensures { IfOk result (λ made. IsPlanned ⟦<OpFn as ItemFn>⟧.value ⟦<OpFn as ItemFn>⟧.called
-        made.0.kind made.0.items.now made.0.workers made.0.blocks made.1.items) }
+        made.0.kind made.0.fold made.0.items.now made.0.workers made.0.blocks made.1.items) }
 {
     let functions = functions_of(alloc, op, workers)?;
     let mut blocks = Vec::new(alloc);
@@ -56,8 +58,10 @@ fn plan_over<'a>(
         job: 0,
         workers,
         blocks: List::from_vec(blocks),
+        ordered: false,
         cancel_after: 0,
         suspend_after: 0,
+        fold: None,
     };
     Ok((plan, functions))
 }
@@ -65,11 +69,11 @@ fn plan_over<'a>(
 // A new engine of a plan, with its desks and the caller's pass.
 pub(crate) fn engine_of<'a, F: ItemFn + Drop, G: Gate>(
     alloc: Global,
-    plan: Plan<'a>,
+    plan: Plan<'a, FoldOp>,
     functions: Vec<F>,
     gate: &'a G,
-) -> Result<(Engine<'a, F, G>, Vec<Desk<F>>, Pass<Bytes>), NoMemory>
-    requires { IsPlanned F.value F.called plan.kind plan.items.now plan.workers plan.blocks functions.items }
+) -> Result<(Engine<'a, F, FoldOp, G>, Vec<Desk<F>>, Pass<Bytes>), NoMemory>
+    requires { IsPlanned F.value F.called plan.kind plan.fold plan.items.now plan.workers plan.blocks functions.items }
     ensures desks { IfOk result (λ made. AreDesks F.value F.called made.0 made.1.items) }
     ensures some { IfOk result (λ made. 0 < length made.1.items) }
     ensures out { IfOk result (λ made. All (λ desk. desk.badge.is_in ≡ false) made.1.items) }
@@ -81,7 +85,7 @@ pub(crate) fn engine_of<'a, F: ItemFn + Drop, G: Gate>(
 // Works with a desk until an answer other than Did.
 pub(crate) fn drive<F: ItemFn, G: Gate, R: Wait>(
     rt: &R,
-    engine: &Engine<'_, F, G>,
+    engine: &Engine<'_, F, FoldOp, G>,
     desk: &mut Desk<F>,
 )
     requires desk { IsDesk F.value F.called engine.now desk.old }
@@ -96,7 +100,7 @@ pub(crate) fn drive<F: ItemFn, G: Gate, R: Wait>(
 // Works with each desk in a thread of its own.
 fn drive_all<F: ItemFn, G: Gate, R: Threads + Wait + Sync>(
     rt: &R,
-    engine: &Engine<'_, F, G>,
+    engine: &Engine<'_, F, FoldOp, G>,
     desks: &mut Vec<Desk<F>>,
 )
     requires desks { AreDesks F.value F.called engine.now desks.old.items }
@@ -125,7 +129,7 @@ fn drive_all<F: ItemFn, G: Gate, R: Threads + Wait + Sync>(
 pub(crate) fn ended<F: ItemFn + Drop, G: Gate, R: Wait>(
     rt: &R,
     alloc: Global,
-    engine: Engine<'_, F, G>,
+    engine: Engine<'_, F, FoldOp, G>,
     desks: Vec<Desk<F>>,
 ) -> Result<(FutureCore<Bytes>, List<u32>), NoMemory>
     requires desks { AreDesks F.value F.called engine desks.items }
@@ -155,11 +159,11 @@ fn a_map_is_made_by_an_engine_alone(rt: HostRuntime) -> Result<(), Fail> {
 fn run_engine<R: Threads + Wait + Sync>(
     rt: &R,
     alloc: Global,
-    plan: Plan<'_>,
+    plan: Plan<'_, FoldOp>,
     functions: Vec<OpFn>,
 ) -> Result<(FutureCore<Bytes>, List<u32>), NoMemory>
     requires { IsPlanned ⟦<OpFn as ItemFn>⟧.value ⟦<OpFn as ItemFn>⟧.called
-        plan.kind plan.items.now plan.workers plan.blocks functions.items }
+        plan.kind plan.fold plan.items.now plan.workers plan.blocks functions.items }
 {
     let (engine, mut desks, _pass) = engine_of(alloc, plan, functions, &NoGate)?;
     drive_all(rt, &engine, &mut desks);
@@ -174,10 +178,10 @@ pub(crate) fn map_plan<'a>(
     items: &'a Items,
     workers: u32,
     sizes: &[u32],
-) -> Result<(Plan<'a>, Vec<OpFn>), NoMemory>
+) -> Result<(Plan<'a, FoldOp>, Vec<OpFn>), NoMemory>
     requires { (1 ≤ workers) × (workers ≤ 32) }
     ensures { IfOk result (λ made. IsPlanned ⟦<OpFn as ItemFn>⟧.value ⟦<OpFn as ItemFn>⟧.called
-        made.0.kind made.0.items.now made.0.workers made.0.blocks made.1.items) }
+        made.0.kind made.0.fold made.0.items.now made.0.workers made.0.blocks made.1.items) }
 {
     assert!(rt; are_sizes(sizes));
     assert!(rt; items.len() <= 8_388_608);
@@ -284,7 +288,7 @@ fn two_workers_fail_with_a_bad_item(rt: HostRuntime) -> Result<(), Fail> {
 
 // The last desk of an engine, and the others.
 pub(crate) fn last_desk<F: ItemFn + Drop, G: Gate>(
-    engine: &Engine<'_, F, G>,
+    engine: &Engine<'_, F, FoldOp, G>,
     desks: &mut Vec<Desk<F>>,
 ) -> Option<Desk<F>>
     requires desks { All (IsDesk F.value F.called engine.now) desks.old.items }

@@ -8,7 +8,7 @@ use crate::tests::engines::{ended, engine_of};
 use crate::tests::{are_sizes, bytes_of, gives};
 use crate::{Desk, Engine, Kind, Plan};
 use qtc_base::{Bytes, Items, List, NoMemory};
-use qtc_ops::{ItemFault, ItemFn};
+use qtc_ops::{FoldOp, ItemFault, ItemFn};
 use qtc_outside::{Gate, NoGate};
 use qtc_shared::Pass;
 use std::alloc::Global;
@@ -68,7 +68,7 @@ fn filter_engine<'a, F: ItemFn + Drop, G: Gate>(
     sizes: &[u32],
     function: F,
     gate: &'a G,
-) -> Result<(Engine<'a, F, G>, Vec<Desk<F>>, Pass<Bytes>), NoMemory>
+) -> Result<(Engine<'a, F, FoldOp, G>, Vec<Desk<F>>, Pass<Bytes>), NoMemory>
     requires items { length items.now ≤ 8388608 }
     requires sizes { AreSizes sizes.now }
     requires fresh { F.called function ≡ [] }
@@ -86,8 +86,10 @@ fn filter_engine<'a, F: ItemFn + Drop, G: Gate>(
         job: 7,
         workers: 1,
         blocks: List::from_vec(blocks),
+        ordered: false,
         cancel_after: 0,
         suspend_after: 0,
+        fold: None,
     };
     engine_of(alloc, plan, functions, gate)
 }

@@ -6,7 +6,7 @@ use crate::tests::bytes_of;
 use crate::tests::engines::{drive, engine_of, last_desk, map_plan};
 use crate::{Desk, Engine};
 use qtc_base::Bytes;
-use qtc_ops::{ItemFn, MapOp};
+use qtc_ops::{FoldOp, ItemFn, MapOp};
 use qtc_outside::Gate;
 use qtc_shared::Pass;
 use std::alloc::Global;
@@ -42,7 +42,7 @@ impl Gate for Watchman {
 // Gives a worker the time to come to the gate, then resumes the future: whether that had an effect.
 fn resumes<F: ItemFn, R: Wait + Clock>(
     rt: &R,
-    engine: &Engine<'_, F, Watchman>,
+    engine: &Engine<'_, F, FoldOp, Watchman>,
     gate: &Watchman,
     mut pass: Pass<Bytes>,
 ) -> bool
@@ -59,7 +59,7 @@ fn resumes<F: ItemFn, R: Wait + Clock>(
 // Works with a desk while another thread resumes the future: whether that had an effect.
 fn drive_and_resume<F: ItemFn + Drop, R: Threads + Wait + Clock + Sync>(
     rt: &R,
-    engine: &Engine<'_, F, Watchman>,
+    engine: &Engine<'_, F, FoldOp, Watchman>,
     mut desk: Desk<F>,
     gate: &Watchman,
     pass: Pass<Bytes>,

@@ -39,9 +39,9 @@ returns-clause-desk g c =
     let made : HasCalled old mid (Fail c.args.index) c.in-Ok.item = record { journal = hold.journal; met = hold.met; future = hold.done.future; pass = hold.pass } in
     desk_leaves value called parts _ _ c.args.piece leaving
     (record { of = refl; badge = refl; number = refl; given = refl; on = goes_further old mid new (called_on old mid (Fail c.args.index) c.in-Ok.item made refl) (stayed_on mid new c.gather.ensures.pass); same_value = refl; next_size = refl })
-    (subst (All (IsOwnCall work c.desk.inside.wants_memory calls)) (sym (stayed_own mid new c.gather.ensures.pass))
-    (called_own old mid (Fail c.args.index) c.in-Ok.item made (IsOwnCall work c.desk.inside.wants_memory calls) leaving.own
-    (λ logged call is. own_fail work c.desk.inside.wants_memory calls c.args.index c.in-Ok.item logged failing call is)))
+    (subst (All (IsOwnCall parts.kind parts.future.terms work c.desk.inside.wants_memory calls)) (sym (stayed_own mid new c.gather.ensures.pass))
+    (called_own old mid (Fail c.args.index) c.in-Ok.item made (IsOwnCall parts.kind parts.future.terms work c.desk.inside.wants_memory calls) leaving.own
+    (λ logged call is. own_fail parts.kind parts.future.terms work c.desk.inside.wants_memory calls c.args.index c.in-Ok.item logged failing call is)))
     refl c.gather.ensures.left
 
 pub returns-clause-turn : goal.returns-clause-turn

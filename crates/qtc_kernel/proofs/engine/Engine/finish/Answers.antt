@@ -2,7 +2,7 @@ use Rattle.std.proofs.Common.{◌≡◌, ◌∷◌, ◌++◌, [], ℕ, List, IfS
 use Rattle.std.proofs.lemmas.List.{length-map}
 use Rattle.std.proofs.lemmas.List.Elements.{All-pop}
 use Rattle.qtc_shared.specs.Passes.{PassState}
-use Rattle.qtc_kernel.specs.EngineParts.{DeskState, FitTogether, IsDesk, work_of}
+use Rattle.qtc_kernel.specs.EngineParts.{DeskState, FitTogether, HasBoard, IsDesk, work_of}
 use Rattle.qtc_kernel.specs.Endings.{functions_at}
 use Rattle.qtc_kernel.specs.Runs.{times_called}
 use Rattle.qtc_kernel.specs.WorkedOut.{AreContinued, IsWorkedOut, calls_of}
@@ -39,6 +39,7 @@ prove-unreachable-requires g c =
     let called = g.F.ItemFn.called in
     let parts = c.args.self.now in
     let fits = subst (FitTogether value) c.self.view_is c.self.invariant.parts in
+    let has = subst HasBoard c.self.view_is c.self.invariant.plain in
     let first = c.work_off.new.first in
     let others = c.work_off.new.others.items in
     let calls = c.in_ok-calls.calls in
@@ -51,7 +52,7 @@ prove-unreachable-requires g c =
     elim c.if-has_ended.branch [
       | then-has_ended w ↦ absurd (false≢true (sym c.if-prove.true ∙ w.prove-is ∙ w.if-has_ended.true))
       | else-has_ended w ↦
-          ended_or value called parts fits first others pass.known c.settle-pass.result.has_ended c.settle-pass.ensures.settled count
+          ended_or value called parts fits has first others pass.known c.settle-pass.result.has_ended c.settle-pass.ensures.settled count
           c.work_off.ensures.first c.work_off.ensures.others c.work_off.ensures.met c.work_off.ensures.over
           (c.none_wants-had_memory.ensures.first c.if-not-had_memory.false) (c.none_wants-had_memory.ensures.others c.if-not-had_memory.false)
           calls (λ index. ap (λ list. times_called list index) (are ∙ ap (calls_of called) (c.settle-pass.ensures.functions c.if-not-has_room.false ∙ ap (λ fs. fs ++ functions_at (others ++ first ∷ [])) c.new-functions.ensures.items)) ∙ calls_turned value called parts first others index)
@@ -65,6 +66,7 @@ returns-clause-worked g c =
     let called = g.F.ItemFn.called in
     let parts = c.args.self.now in
     let fits = subst (FitTogether value) c.self.view_is c.self.invariant.parts in
+    let has = subst HasBoard c.self.view_is c.self.invariant.plain in
     let first = c.work_off.new.first in
     let others = c.work_off.new.others.items in
     let calls = c.in_ok-calls.calls in
@@ -72,8 +74,8 @@ returns-clause-worked g c =
     let same : length others ≡ length c.pop.new.self.items = sym (length-map others (λ desk. desk.function)) ∙ ap length c.work_off.ensures.functions ∙ length-map c.pop.new.self.items (λ desk. desk.function) in
     let count : length (first ∷ others) ≡ parts.counter.workers = omega (arith, long, same, c.requires.desks.count) in
     let are = ok_from _ c.calls_of.result calls c.in_ok-calls.was c.calls_of.ensures in
-    subst (λ journal. IsWorkedOut (work_of value parts) parts.sizes parts.future.terms journal calls) (sym (ap (λ (p : PassState (List ℕ)). p.known) c.is_canceled-is_canceled.ensures.1.pass))
-    (worked_out value called parts fits first others c.settle-pass.result.pass.known c.settle-pass.result.has_ended c.settle-pass.ensures.settled count
+    subst (λ journal. IsWorkedOut (work_of value parts) parts.sizes parts.kind parts.future.terms journal calls) (sym (ap (λ (p : PassState (List ℕ)). p.known) c.is_canceled-is_canceled.ensures.1.pass))
+    (worked_out value called parts fits has first others c.settle-pass.result.pass.known c.settle-pass.result.has_ended c.settle-pass.ensures.settled count
     c.work_off.ensures.first c.work_off.ensures.others c.work_off.ensures.met c.work_off.ensures.over
     (c.none_wants-had_memory.ensures.first c.if-not-had_memory.false) (c.none_wants-had_memory.ensures.others c.if-not-had_memory.false)
     calls (λ index. ap (λ list. times_called list index) (are ∙ ap (calls_of called) (c.settle-pass.ensures.functions c.if-not-has_room.false ∙ ap (λ fs. fs ++ functions_at (others ++ first ∷ [])) c.new-functions.ensures.items)) ∙ calls_turned value called parts first others index))

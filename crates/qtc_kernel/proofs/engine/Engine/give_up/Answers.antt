@@ -29,14 +29,14 @@ returns-clause-desk g c =
     let hold = c.cancel.ensures in
     let calls = called c.desk.inside.function in
     let made : HasCalled old mid Cancel [] = record { journal = hold.journal; met = hold.met; future = hold.done.future; pass = hold.pass } in
-    let before : All (IsOwnCall work true calls) (calls_by old.number old.known) =
-    All-weaker (IsOwnCall work c.desk.inside.wants_memory calls) (IsOwnCall work true calls)
-    (λ logged. own_more work c.desk.inside.wants_memory true calls calls logged (λ wants_memory. refl) (λ index. omega arith)) (calls_by old.number old.known) leaving.own
+    let before : All (IsOwnCall parts.kind parts.future.terms work true calls) (calls_by old.number old.known) =
+    All-weaker (IsOwnCall parts.kind parts.future.terms work c.desk.inside.wants_memory calls) (IsOwnCall parts.kind parts.future.terms work true calls)
+    (λ logged. own_more parts.kind parts.future.terms work c.desk.inside.wants_memory true calls calls logged (λ wants_memory. refl) (λ index. omega arith)) (calls_by old.number old.known) leaving.own
     in
     desk_leaves value called parts _ _ c.args.piece leaving
     (record { of = refl; badge = refl; number = refl; given = refl; on = goes_further old mid new (called_on old mid Cancel [] made refl) (stayed_on mid new c.gather.ensures.pass); same_value = refl; next_size = refl })
-    (subst (All (IsOwnCall work true calls)) (sym (stayed_own mid new c.gather.ensures.pass))
-    (called_own old mid Cancel [] made (IsOwnCall work true calls) before (λ logged call item. own_cancel work calls logged call)))
+    (subst (All (IsOwnCall parts.kind parts.future.terms work true calls)) (sym (stayed_own mid new c.gather.ensures.pass))
+    (called_own old mid Cancel [] made (IsOwnCall parts.kind parts.future.terms work true calls) before (λ logged call item. own_cancel parts.kind parts.future.terms work calls logged call)))
     refl c.gather.ensures.left
 
 pub returns-clause-turn : goal.returns-clause-turn

@@ -1,4 +1,4 @@
-use Rattle.std.proofs.Common.{◌≡◌, ℕ, [], All, length}
+use Rattle.std.proofs.Common.{◌≡◌, [], All, length}
 use Rattle.qtc_ops.specs.contracts.op_fns.OpFnItemFn.TheImpl.{value-value, called-value}
 use Rattle.qtc_ops.specs.Operations.{value_of}
 use Rattle.qtc_kernel.proofs.tests.engines.functions_of.Given as goal

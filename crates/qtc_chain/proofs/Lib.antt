@@ -1,0 +1,4 @@
+pub mod Missing
+pub mod Firsts
+pub mod Once
+pub mod Chained

@@ -1,0 +1,5 @@
+pub mod Covering
+pub mod Waiting
+pub mod Sound
+pub mod Folding
+pub mod Staying

@@ -1,0 +1,6 @@
+-- What a reduction is known by.
+pub mod Blocks
+pub mod Core
+pub mod Steps
+pub mod Inside
+pub mod Laws

@@ -1,0 +1,11 @@
+pub mod TurnLemmas
+pub mod Passing
+pub mod Answered
+pub mod Full
+pub mod Stepping
+pub mod Adding
+pub mod Stopping
+pub mod Ended
+pub mod PlaceLemmas
+pub mod WaitLemmas
+pub mod ReadyLemmas

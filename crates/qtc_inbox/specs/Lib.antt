@@ -2,4 +2,10 @@ pub mod Entries
 pub mod Parts
 pub mod Rule
 pub mod Line
+pub mod Reports
+pub mod Boards
+pub mod Draining
+pub mod Inboxes
+pub mod Lending
+pub mod Endings
 pub mod Inside

@@ -9,12 +9,23 @@
 //! All places belong to the line that made them, and contracts see which that is.
 #![tactic(auto)]
 
+mod board;
+mod close;
+mod ending;
 mod entry;
+mod inbox;
+mod inbox_pass;
 mod line;
 mod place;
+mod posted;
+mod posts;
+mod reports;
 mod rule;
 
 pub use entry::{Cell, Entry};
+pub use inbox::Inbox;
+pub use inbox_pass::InboxPass;
 pub use line::Line;
 pub use place::Place;
+pub use posted::Posted;
 pub use rule::Table;

@@ -29,7 +29,7 @@ from pathlib import Path
 
 TOP = Path(__file__).resolve().parent.parent
 PROGRAM = os.environ.get("QTC", str(TOP / "qtc"))
-PAGES = ["README.md", "docs/TUTORIAL.md", "docs/QT.md", "docs/USING.md", "docs/JOB_FILES.md"]
+PAGES = ["README.md", "docs/TUTORIAL.md", "docs/QT.md", "docs/USING.md", "docs/JOB_FILES.md", "crates/qtc_tasks/README.md"]
 EDITORS = ["tools/editors/vim/syntax/qtcjob.vim", "tools/editors/qtcjob.tmLanguage.json"]
 BLOCK = re.compile(r"^<!-- (file|part|run)(?:: (\S+))? -->\n+```[^\n]*\n(.*?)^```$", re.M | re.S)
 END = "\x1e\n"

@@ -67,6 +67,15 @@ impl<'a> Caller<'a> {
         }
     }
 
+    pub fn start<R: Wait>(&mut self, rt: &R) -> bool {
+        self.future.start(rt, &mut self.pass)
+    }
+
+    /// Adds a value where the last batch ends: whether it was accepted.
+    pub fn add<R: Wait>(&mut self, rt: &R, value: u64) -> Result<bool, NoMemory> {
+        self.future.add_result(rt, &mut self.pass, None, value)
+    }
+
     /// The word of flags, by one look.
     pub fn look(&mut self) -> u32 {
         self.future.state(&mut self.pass).bits

@@ -16,6 +16,7 @@ use std::sync::Wait;
 use std::thread::Threads;
 use std::{env, io};
 use stores::{Order, print_filled, print_stores};
+use tasks::print_tasks;
 use waits::{print_bell_wait, print_lock_wait};
 
 mod callers;
@@ -29,6 +30,7 @@ mod operations;
 mod pools;
 mod stores;
 mod tables;
+mod tasks;
 mod texts;
 mod timing;
 mod waits;
@@ -44,6 +46,7 @@ usage: qtc_bench ops    the operations of jobs over 1000000 lines, ns an item
        qtc_bench future a shared future beside std's lock round its core, ns for a call
        qtc_bench inplace 1000000 members mapped and filtered in place by 1, 2 and 4 functions, ns a member
        qtc_bench pool   tasks through a pool beside std's queue under its lock, ns a task
+       qtc_bench task   values through a task beside add_result alone, 1000 tasks beside a pool, ns a value and a task
        qtc_bench wait lock|bell|resume|pause|finish|result|pool    who waits for a second, ms
 ";
 
@@ -92,6 +95,7 @@ fn measure<R: Wait + Threads + Sync + Clock + Print>(
         "future" => print_futures(rt, alloc)?,
         "inplace" => print_in_place(rt, alloc)?,
         "pool" => print_pools(rt, alloc)?,
+        "task" => print_tasks(rt, alloc)?,
         _ => return Ok(false),
     }
     Ok(true)

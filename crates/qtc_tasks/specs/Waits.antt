@@ -24,6 +24,12 @@ IsUnwrapped (Values _) outcome = ⊥
 IsUnwrapped (Failed failure) outcome = outcome ≡ Failed failure
 IsUnwrapped Canceled outcome = outcome ≡ Canceled
 
+-- the outer outcome has no values, so that it passes on as it is
+abbrev pub passes_on : {V : Type 0} → Outcome (Future V) → Bool
+passes_on (Values values) = false
+passes_on (Failed failure) = true
+passes_on Canceled = true
+
 -- the passes of the futures that are waited for, in the order in which they were added
 pub record Awaited (V : Type 0) : Type 0 where
   pub cancel_on_wait : Bool

@@ -1,7 +1,7 @@
 // Two tasks that each wait for a result of the other's future, which a body on one thread never ends.
 ghost use Rattle.std.specs.Prelude.{◌≡◌, ◌<◌, ◌∷◌, [], None, false, nat_eq, cond};
 
-use crate::rows::plain;
+use crate::made::plain;
 use qtc_shared::{Pass, SharedFuture};
 use qtc_tasks::{Task, TaskFault, TaskJob, TaskStop, run_all};
 use std::sync::Wait;

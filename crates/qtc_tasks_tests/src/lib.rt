@@ -5,4 +5,14 @@
 #[cfg(test)]
 mod halves;
 #[cfg(test)]
+mod made;
+#[cfg(test)]
+mod nested;
+#[cfg(test)]
+mod races;
+#[cfg(test)]
 mod rows;
+#[cfg(test)]
+mod synchronizers;
+#[cfg(test)]
+mod uses;

@@ -2,18 +2,19 @@
 use Rattle.std.proofs.Common.{◌≡◌, ℕ, ◌+◌, ◌*◌, ◌^◌, ◌<◌, ◌≤◌, ◌==◌, cond, nat_lt, List, [], ◌∷◌, ◌++◌, length, map, sym, ap, ◌∙◌, subst, arith, sum_by, count_by, slice_get, Some, All}
 use Rattle.std.proofs.lemmas.Bool.Decides.{nat_tests}
 use Rattle.std.proofs.lemmas.List.Sums.{sum_by_push, sum_by-le-sum_by}
-use Rattle.std.proofs.lemmas.List.Elements.{All-head}
+use Rattle.std.proofs.lemmas.List.Elements.{All-head, All-contains}
 use Rattle.qtc_base.specs.Ranges.{Tiles}
 use Rattle.atomic_table.specs.Seated.{TableId}
 use Rattle.qtc_claim.specs.declared.rule.View.{View}
-use Rattle.qtc_claim.specs.Claims.{IsWithinLimits, Addition, addition_at, Worker, new_worker, added, added_past, claims_of, clipped, gave, times_numbered, MeetNowhere, after_load, after_addition}
+use Rattle.qtc_claim.specs.Claims.{IsWithinLimits, Addition, addition_at, Worker, new_worker, added, added_past, claims_of, settled_of, clipped, gave, times_numbered, MeetNowhere, after_load, after_addition}
 use Rattle.qtc_base.specs.Limits.{most_items, most_workers, most_block}
-use Rattle.qtc_claim.specs.Rule.{worker_view, covers, covering, blank, claimed, kept, KnowsAll, Knows, looked, grown, made, Looks, Grows}
-use Rattle.qtc_claim.specs.Counter.{CounterId, SeatState, PieceState, TallyState, Sees, ClaimsPiece, IsGathered, HasAll, IsEnd, KnowsClaims, added_by}
+use Rattle.qtc_claim.specs.Rule.{worker_view, covers, covering, blank, claimed, kept, tallies, KnowsAll, Knows, looked, grown, made, Looks, Grows}
+use Rattle.qtc_claim.specs.Counter.{CounterId, SeatState, PieceState, TallyState, Sees, ClaimsPiece, IsGathered, HasAll, IsEnd, IsSettled, KnowsClaims, added_by}
 use Rattle.atomic_table.specs.declared.shared.Seat.{Seat}
 use Rattle.qtc_claim.specs.declared.counter.Counter.TheInside.{Inside}
-use Rattle.qtc_claim.specs.Inside.{counter_id, IsCounter, IsWorker, worker_of, seat_of, in_hand, of_seat, tally_of, HasRead}
+use Rattle.qtc_claim.specs.Inside.{counter_id, IsCounter, IsWorker, worker_of, seat_of, in_hand, of_seat, tally_of, lent_in, HasRead, HasSettled}
 use Rattle.qtc_claim.proofs.Sums.{pushed_each, of_claims, apart_from, tiles_from, covers_below, covers_none, covers_upto, blank_below, gave_and_blank, sum_by_none}
+use Rattle.qtc_claim.proofs.Books.{of_settled, weighs_nothing}
 
 pub in_word : (count n workers : ℕ) → n ≤ most_items → workers ≤ most_workers → count ≤ n + most_block * workers → count < 2 ^ 64
 in_word count n workers a b bound = omega arith
@@ -78,7 +79,7 @@ at_key a counter worker held seat is view_is mine =
 module _ (counter : CounterId) (count : ℕ) (view : View) (limits : IsWithinLimits counter.n counter.workers) (n_is : view.n ≡ counter.n) (most_is : view.most ≡ counter.workers)
     (knows : Knows view count) where
   abbrev tally : TallyState
-  tally = record { of = counter; pieces = view.held; workers = view.workers }
+  tally = record { of = counter; pieces = view.held; workers = view.workers; kept = view.receipts; lent = lent_in view.books }
 
   claims_apart : MeetNowhere counter.n (claims_of view.workers)
   claims_apart = apart_from counter.n (claims_of view.workers) (λ number. let flat = of_claims (covering number) view.workers in let apart = knows.apart number in omega arith)
@@ -147,6 +148,27 @@ module _ (counter : CounterId) (count : ℕ) (view : View) (limits : IsWithinLim
       tiles_from counter.n count view.held (omega arith)
       (λ number below. let cover = covered number in let none = no_blank number (omega arith) in omega arith)
 
+  -- where all is settled, the receipts that were given are those of the claims that gave a piece
+  module _ (one : tallies view ≡ 1) (is : IsSettled tally) where
+    settles_all : (weight : Addition → ℕ) → sum_by weight view.receipts + sum_by weight (gave counter.n (claims_of view.workers)) ≤ sum_by weight view.held
+    settles_all weight = omega (arith, knows.receipts one weight, knows.right.marks weight, of_settled weight view.workers, is.each weight)
+
+    none_left : view.receipts ≡ []
+    none_left = weighs_nothing view.receipts (let weight : Addition → ℕ = λ _. 1 in omega (arith, settles_all weight, parts_once is.all weight))
+
+    at_end : IsEnd tally
+    at_end =
+        let size : Addition → ℕ = λ addition. addition.size in
+        let claims = knows_claims is.all in
+        record {
+          all = is.all;
+          nothing_out = omega (arith, settles_all size, parts_once is.all size, gave_and_blank counter.n size (claims_of view.workers));
+          past = let seen = All-contains (λ (worker : Worker). worker.seen ≤ added_by view.workers) view.workers is.saw.0 claims.seen is.saw.1 in omega (arith, seen, is.saw.2);
+        }
+
+  pub has_settled : tallies view ≡ 1 → HasSettled tally
+  has_settled one = record { end = λ is. at_end one is; kept = λ is. none_left one is }
+
   pub has_read : HasRead counter count tally
   has_read = record {
     limits = limits;
@@ -163,6 +185,12 @@ pub read_knows : (a : Inside) (counter : CounterId) (count : ℕ) (seat : Seat (
 read_knows a counter count seat is view_is of knows =
     let limits : IsWithinLimits counter.n counter.workers = subst (λ (c : CounterId). IsWithinLimits c.n c.workers) view_is is.limits in
     has_read counter count seat.me.0 limits (ap (λ (c : CounterId). c.n) of) (ap (λ (c : CounterId). c.workers) of) knows
+
+pub read_settles : (a : Inside) (counter : CounterId) (count : ℕ) (seat : Seat (Unit {0}) View) → IsCounter a → counter_id a ≡ counter → of_seat seat ≡ counter → Knows seat.me.0 count
+    → tallies seat.me.0 ≡ 1 → HasSettled (tally_of counter seat)
+read_settles a counter count seat is view_is of knows =
+    let limits : IsWithinLimits counter.n counter.workers = subst (λ (c : CounterId). IsWithinLimits c.n c.workers) view_is is.limits in
+    has_settled counter count seat.me.0 limits (ap (λ (c : CounterId). c.n) of) (ap (λ (c : CounterId). c.workers) of) knows
 
 past_le : (n : ℕ) (addition : Addition) → blank n (λ it. it.size) addition ≤ addition.size
 past_le n addition = grind (arith, nat_tests)

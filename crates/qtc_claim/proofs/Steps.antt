@@ -1,9 +1,9 @@
 -- Each step on a counter keeps its rule, and what it tells.
-use Rattle.std.proofs.Common.{◌≡◌, ℕ, ◌+◌, ◌*◌, ◌%◌, ◌^◌, ◌<◌, ◌≤◌, ◌==◌, cond, nat_lt, nat_le, true, false, not, Bool, List, [], ◌∷◌, ◌++◌, length, set, sym, refl, ap, ◌∙◌, subst, arith, sum_by, All, slice_index, slice_set, length-append}
+use Rattle.std.proofs.Common.{◌≡◌, ℕ, ◌+◌, ◌*◌, ◌%◌, ◌^◌, ◌<◌, ◌≤◌, ◌==◌, cond, nat_lt, nat_le, true, false, not, Bool, List, [], ◌∷◌, ◌++◌, length, set, sym, refl, ap, ◌∙◌, subst, arith, sum_by, All, Contains, slice_index, slice_set, length-append, map, Option, Some, None}
 use Rattle.std.proofs.Math.Nat.{mod-eq_of_lt}
 use Rattle.std.proofs.lemmas.Bool.Decides.{nat_tests}
 use Rattle.std.proofs.lemmas.List.Sums.{sum_by-append, sum_by_push, sum_by-remove, sum_by-le-sum_by, count_by-le-length}
-use Rattle.std.proofs.lemmas.List.Elements.{All-set, All-append, All-cons, All-nil, All-weaker, All-head}
+use Rattle.std.proofs.lemmas.List.Elements.{All-set, All-append, All-cons, All-nil, All-weaker, All-head, All-map, Contains-append_left}
 use Rattle.std.specs.List.{flat_map, remove}
 use mathlib.Core.Option.{some}
 use lib.ListN.{get_elem?}
@@ -12,14 +12,21 @@ use Rattle.atomic_table.proofs.Lists.{set_here, set_else, set_again}
 use Rattle.qtc_lock.proofs.Views.{placed, All-at, All-snoc, sum_by-set_view, sum_by-snoc}
 use Rattle.qtc_claim.specs.declared.rule.View.{View}
 use Rattle.qtc_claim.specs.declared.rule.Limits.{Limits}
-use Rattle.qtc_claim.specs.Claims.{Addition, addition_at, Worker, new_worker, after_load, after_addition}
+use Rattle.qtc_claim.specs.Claims.{Addition, addition_at, Worker, new_worker, after_load, after_addition, after_settle, Loan, Book}
 use Rattle.qtc_base.specs.Limits.{most_items, most_workers, most_block}
-use Rattle.qtc_claim.specs.Rule.{worker_view, spent_view, covers, covering, blank, claimed, kept, saw, numbered, seats, IsRight, AddsUp, Holds, IsKept, KnowsAll, Knows, looked, grown, left_to_make, made, empty_handed, cut, gathered, Looks, Grows, Reads}
+use Rattle.qtc_claim.specs.Rule.{worker_view, receipt_view, token_view, spent_view, covers, covering, blank, claimed, kept, saw, numbered, seats, receipted, marked, borrowed, loan_weight, lent, tallies, IsRight, AddsUp, Holds, IsKept, KnowsAll, Knows, looked, grown, left_to_make, made, empty_handed, cut, gathered, IsUnmarked, last_of, with_mark, last_marked, last_receipt, settling, without_receipts, receipts_of, lending, token_for, first_loan, back_in, back_home, Looks, Grows, Reads}
 use Rattle.qtc_claim.proofs.Sums.{covers_none, covers_one, covers_on, covers_first, sum_by_nothing, of_held, sum_by_both}
+use Rattle.qtc_claim.proofs.Books.{no_marks, no_loans}
 
 -- what a step changes: a measure of the views that it touches, before and after
-abbrev Changes : (T T' before after : (View → ℕ) → ℕ) → Type 0
+abbrev pub Changes : (T T' before after : (View → ℕ) → ℕ) → Type 0
 Changes T T' before after = (measure : View → ℕ) → T' measure + before measure ≡ T measure + after measure
+
+-- what a step leaves to receipts, tokens and the tally, of the views that it touches
+pub record SameBooks (before after : (View → ℕ) → ℕ) : Type 0 where
+  pub receipts : (weight : Addition → ℕ) → after (receipted weight) + before (marked weight) ≡ before (receipted weight) + after (marked weight)
+  pub tokens : (weight : Loan → ℕ) → after (borrowed weight) + before (lent weight) ≡ before (borrowed weight) + after (lent weight)
+  pub one : after tallies ≡ before tallies
 
 module _ (n most count count' : ℕ) (T T' before after : (View → ℕ) → ℕ) (change : Changes T T' before after) (sums : AddsUp n most count T) where
   -- what the touched views have goes on as the counter does
@@ -29,45 +36,51 @@ module _ (n most count count' : ℕ) (T T' before after : (View → ℕ) → ℕ
       → count' ≤ n + most_block * T' (saw n)
       → ((number : ℕ) → after (numbered number) ≡ before (numbered number))
       → after seats ≡ before seats
+      → SameBooks before after
       → AddsUp n most count' T'
-  moves once tiles sizes bound numbers places = record {
+  moves once tiles sizes bound numbers places books = record {
     once = λ weight. omega (arith, change (kept n weight), change (claimed weight), once weight, sums.once weight);
     tiles = λ number. omega (arith, change (claimed (covering number)), tiles number, sums.tiles number);
     sizes = omega (arith, change (claimed (λ addition. addition.size)), sizes, sums.sizes);
     bound = bound;
     numbers = λ number. omega (arith, change (numbered number), numbers number, sums.numbers number);
     places = omega (arith, change seats, places, sums.places);
+    receipts = λ weight. omega (arith, change (receipted weight), change (marked weight), books.receipts weight, sums.receipts weight);
+    tokens = λ weight. omega (arith, change (borrowed weight), change (lent weight), books.tokens weight, sums.tokens weight);
+    one = omega (arith, change tallies, books.one, sums.one);
   }
 
 module _ (n most count : ℕ) (T T' before after : (View → ℕ) → ℕ) (change : Changes T T' before after) (sums : AddsUp n most count T) where
   -- the touched views have what they had, and the counter is as it was
-  rests : ((weight : Addition → ℕ) → after (kept n weight) ≡ before (kept n weight))
+  pub rests : ((weight : Addition → ℕ) → after (kept n weight) ≡ before (kept n weight))
       → ((weight : Addition → ℕ) → after (claimed weight) ≡ before (claimed weight))
       → before (saw n) ≤ after (saw n)
       → ((number : ℕ) → after (numbered number) ≡ before (numbered number))
       → after seats ≡ before seats
+      → SameBooks before after
       → AddsUp n most count T'
-  rests same_kept same_claimed more same_numbers places = moves n most count count T T' before after change sums
+  rests same_kept same_claimed more same_numbers places books = moves n most count count T T' before after change sums
       (λ weight. omega (arith, same_kept weight, same_claimed weight))
       (λ number. omega (arith, same_claimed (covering number)))
       (omega (arith, same_claimed (λ addition. addition.size)))
       (omega (arith, change (saw n), sums.bound))
       same_numbers
       places
+      books
 
 -- the sum over all views
-abbrev over : List View → (View → ℕ) → ℕ
+abbrev pub over : List View → (View → ℕ) → ℕ
 over views measure = sum_by measure views
 
 set_changes : (views : List View) (id : ℕ) (v w : View) → get_elem? views id ≡ some v → Changes (over views) (over (set views id w)) (λ measure. measure v) (λ measure. measure w)
 set_changes views id v w at measure = sum_by-set_view measure views id v w at
 
-split_changes : (views : List View) (id : ℕ) (v left right : View) → get_elem? views id ≡ some v
+pub split_changes : (views : List View) (id : ℕ) (v left right : View) → get_elem? views id ≡ some v
     → Changes (over views) (over (set views id left ++ right ∷ [])) (λ measure. measure v) (λ measure. measure left + measure right)
 split_changes views id v left right at measure =
     omega (arith, sum_by-set_view measure views id v left at, sum_by-snoc measure (set views id left) right)
 
-join_changes : (views : List View) (id other : ℕ) (v w both spent : View) → get_elem? views id ≡ some v → get_elem? (set views id both) other ≡ some w
+pub join_changes : (views : List View) (id other : ℕ) (v w both spent : View) → get_elem? views id ≡ some v → get_elem? (set views id both) other ≡ some w
     → Changes (over views) (over (set (set views id both) other spent)) (λ measure. measure v + measure w) (λ measure. measure both + measure spent)
 join_changes views id other v w both spent at at' measure =
     omega (arith, sum_by-set_view measure views id v both at, sum_by-set_view measure (set views id both) other w spent at')
@@ -172,6 +185,25 @@ module _ (key : Limits) (count : ℕ) (views : List View) (holds : Holds key cou
               subst (λ n. kept n (covering number) v ≡ covers number 0 count) (sym n_is) here;
         }
 
+    -- where the view has the book, the others have none
+    no_others : tallies v ≡ 1 → sum_by tallies (remove views id) ≡ 0
+    no_others one = omega (arith, parts tallies, holds.sums.one, one)
+
+    receipts_given : tallies v ≡ 1 → (weight : Addition → ℕ) → receipted weight v ≤ marked weight v
+    receipts_given one weight =
+        let none : sum_by (marked weight) (remove views id) ≡ 0 = sum_by_nothing (marked weight) tallies (remove views id) (no_marks weight) (no_others one) in
+        omega (arith, parts (receipted weight), parts (marked weight), none, holds.sums.receipts weight)
+
+    -- what it lent the tokens are
+    pub loans_given : tallies v ≡ 1 → (weight : Loan → ℕ) → over views (borrowed weight) ≡ lent weight v
+    loans_given one weight =
+        let none : sum_by (lent weight) (remove views id) ≡ 0 = sum_by_nothing (lent weight) tallies (remove views id) (no_loans weight) (no_others one) in
+        omega (arith, parts (lent weight), none, holds.sums.tokens weight)
+
+    -- and what it has itself is among all
+    pub within : (measure : View → ℕ) → measure v ≤ over views measure
+    within measure = omega (arith, parts measure)
+
     pub knows_view : v.n ≡ key.n → v.most ≡ key.workers → Knows v count
     knows_view n_is most_is =
         let size : Addition → ℕ = λ addition. addition.size in
@@ -187,6 +219,7 @@ module _ (key : Limits) (count : ℕ) (views : List View) (holds : Holds key cou
               subst (λ most. numbered number v ≤ covers number 0 most) (sym most_is) (omega (arith, parts (numbered number), holds.sums.numbers number));
           places = omega (arith, parts seats, holds.sums.places, most_is);
           all = λ all. knows_all (all ∙ most_is) n_is most_is;
+          receipts = λ one weight. receipts_given one weight;
         }
 
 module _ (key : Limits) (slots id : ℕ) where
@@ -207,15 +240,35 @@ right_later : (n count count' : ℕ) → count ≤ count' → (view : View) → 
 right_later n count count' later view right = record {
   seen = All-weaker (λ (worker : Worker). worker.seen ≤ count) (λ (worker : Worker). worker.seen ≤ count') (λ worker seen. omega arith) view.workers right.seen;
   below = right.below;
+  settled = right.settled;
+  marks = right.marks;
+  books = right.books;
+}
+
+pub one_sees : (count : ℕ) (worker : Worker) → worker.seen ≤ count → All (λ (it : Worker). it.seen ≤ count) (worker ∷ [])
+one_sees count worker seen = All-cons (λ (it : Worker). it.seen ≤ count) worker [] seen (All-nil (λ (it : Worker). it.seen ≤ count))
+
+-- what the one worker of a view settled it claimed
+abbrev pub Settled : Worker → Type 0
+Settled worker = All (Contains worker.claims) worker.settled
+
+pub one_settled : (n count : ℕ) (view : View) (worker : Worker) → view.workers ≡ worker ∷ [] → IsRight n count view → Settled worker
+one_settled n count view worker one right = All-head Settled worker [] (subst (λ ws. All Settled ws) one right.settled)
+
+-- a view of one worker without a book
+pub right_worker : (n count : ℕ) (view : View) (worker : Worker) → view.workers ≡ worker ∷ [] → worker.seen ≤ count → Settled worker → All (λ addition. addition.begin < n) view.held → view.books ≡ [] → IsRight n count view
+right_worker n count view worker one seen settled below none = record {
+  seen = subst (λ ws. All (λ (it : Worker). it.seen ≤ count) ws) (sym one) (one_sees count worker seen);
+  below = below;
+  settled = subst (λ ws. All Settled ws) (sym one) (All-cons Settled worker [] settled (All-nil Settled));
+  marks = λ weight. let nothing : marked weight view ≡ 0 = ap (λ books. sum_by (λ (book : Book). sum_by weight book.marked) books) none in omega (arith, nothing);
+  books = subst (λ books. All (λ (book : Book). book.brought ≡ book.awaited) books) (sym none) (All-nil (λ (book : Book). book.brought ≡ book.awaited));
 }
 
 -- what a worker saw, where it is the one of its view
 pub one_seen : (n count : ℕ) (view : View) (worker : Worker) → view.workers ≡ worker ∷ [] → IsRight n count view → worker.seen ≤ count
 one_seen n count view worker one right =
     All-head (λ (it : Worker). it.seen ≤ count) worker [] (subst (λ ws. All (λ (it : Worker). it.seen ≤ count) ws) one right.seen)
-
-one_sees : (count : ℕ) (worker : Worker) → worker.seen ≤ count → All (λ (it : Worker). it.seen ≤ count) (worker ∷ [])
-one_sees count worker seen = All-cons (λ (it : Worker). it.seen ≤ count) worker [] seen (All-nil (λ (it : Worker). it.seen ≤ count))
 
 module _ (key : Limits) (worker : Worker) (held : List Addition) where
   abbrev mine : View
@@ -225,7 +278,9 @@ module _ (key : Limits) (worker : Worker) (held : List Addition) where
   look_keeps id count views holds at =
       let right = All-at (IsRight key.n count) views id mine at holds.right in
       let seen : worker.seen ≤ count = one_seen key.n count mine worker refl right in
-      let right' : IsRight key.n count (looked count mine) = record { seen = one_sees count (after_load count worker) (omega arith); below = right.below } in
+      let right' : IsRight key.n count (looked count mine) =
+      right_worker key.n count (looked count mine) (after_load count worker) refl (omega arith) (one_settled key.n count mine worker refl right) right.below refl
+      in
       record {
         limits = holds.limits;
         right = All-set (IsRight key.n count) views id (looked count mine) right' holds.right;
@@ -235,7 +290,8 @@ module _ (key : Limits) (worker : Worker) (held : List Addition) where
             (λ weight. refl)
             (saw_more key.n worker.seen count seen)
             (λ number. refl)
-            refl;
+            refl
+            (record { receipts = λ weight. refl; tokens = λ weight. refl; one = refl });
       }
     where
       saw_more : (n seen count : ℕ) → seen ≤ count → 0 + cond (nat_le n seen) 1 0 ≤ 0 + cond (nat_le n count) 1 0
@@ -295,8 +351,13 @@ module _ (key : Limits) (worker : Worker) (size : ℕ) where
       let a : Addition = addition_at count size in
       let after = grown count size empty in
       let later : count ≤ count + size = omega arith in
+      let was = All-at (IsRight key.n count) views id empty at holds.right in
+      let settled : Settled (after_addition a worker) =
+      All-weaker (Contains worker.claims) (Contains (worker.claims ++ a ∷ [])) (λ it among. Contains-append_left worker.claims (a ∷ []) it among) worker.settled
+      (one_settled key.n count empty worker refl was)
+      in
       let right' : IsRight key.n (count + size) after =
-      record { seen = one_sees (count + size) (after_addition a worker) (omega arith); below = held_below key.n count a refl }
+      right_worker key.n (count + size) after (after_addition a worker) refl (omega arith) settled (held_below key.n count a refl) refl
       in
       let change = set_changes views id empty after at in
       let claims : (weight : Addition → ℕ) → claimed weight after ≡ claimed weight empty + weight a =
@@ -311,7 +372,8 @@ module _ (key : Limits) (worker : Worker) (size : ℕ) where
             (omega (arith, claims (λ addition. addition.size)))
             (bounded key.n count (over views (saw key.n)) (over (set views id after) (saw key.n)) below small (change (saw key.n)) holds.sums.bound)
             (λ number. refl)
-            refl;
+            refl
+            (record { receipts = λ weight. refl; tokens = λ weight. refl; one = refl });
       }
     where
       bounded : (n here s s' : ℕ) → worker.seen < n → size ≤ most_block → s' + (0 + cond (nat_le n worker.seen) 1 0) ≡ s + (0 + cond (nat_le n (here + size)) 1 0) → here ≤ n + most_block * s → here + size ≤ n + most_block * s'
@@ -337,96 +399,3 @@ grows key slots id size worker m is small below =
     let v = worker_view key.n key.workers worker [] in
     subst (λ (x : Me (Unit {0}) View). Allows (IsKept key) slots id x 0 (λ n. (n + size) % 2 ^ 64) (λ found after. (after.1 ≡ []) × Grows size x.0 found after.0)) (sym is)
     (steps key slots id v (λ n. (n + size) % 2 ^ 64) (λ count. grown count size v) (Grows size v) (λ count views holds at. grow_tells key worker size id count views small below holds at))
-
--- a view that has no worker, nothing in hand and no number to give
-right_piece : (n count : ℕ) (view : View) → view.workers ≡ [] → All (λ addition. addition.begin < n) view.held → IsRight n count view
-right_piece n count view none below = record { seen = subst (λ ws. All (λ (it : Worker). it.seen ≤ count) ws) (sym none) (All-nil (λ (it : Worker). it.seen ≤ count)); below = below }
-
-module _ (key : Limits) (id : ℕ) (v : View) where
-  -- the tally gives a number to a new worker
-  make_keeps : (count : ℕ) (views : List View) → 0 < v.unmade → v.n ≡ key.n → v.most ≡ key.workers → Holds key count views → get_elem? views id ≡ some v
-      → Holds key count (set views id (left_to_make v) ++ made v ∷ [])
-  make_keeps count views some_left n_is most_is holds at =
-      let right = All-at (IsRight key.n count) views id v at holds.right in
-      let left' : IsRight key.n count (left_to_make v) = record { seen = right.seen; below = right.below } in
-      let made' : IsRight key.n count (made v) = record { seen = one_sees count (new_worker v.next) (omega arith); below = All-nil (λ (it : Addition). it.begin < key.n) } in
-      record {
-        limits = holds.limits;
-        right = All-snoc (IsRight key.n count) (set views id (left_to_make v)) (made v) made' (All-set (IsRight key.n count) views id (left_to_make v) left' holds.right);
-        sums = rests key.n key.workers count (over views) (over (set views id (left_to_make v) ++ made v ∷ [])) (λ measure. measure v) (λ measure. measure (left_to_make v) + measure (made v))
-            (split_changes views id v (left_to_make v) (made v) at) holds.sums
-            (λ weight. omega arith)
-            (λ weight. omega arith)
-            (omega arith)
-            (λ number. let first = covers_first number v.next v.unmade some_left in let none = covers_none number 0 in omega (arith, first, none))
-            (omega arith);
-      }
-
-  -- a worker gives the piece in hand away
-  cut_keeps : (count : ℕ) (views : List View) → Holds key count views → get_elem? views id ≡ some v → Holds key count (set views id (empty_handed v) ++ cut v ∷ [])
-  cut_keeps count views holds at =
-      let right = All-at (IsRight key.n count) views id v at holds.right in
-      let left' : IsRight key.n count (empty_handed v) = record { seen = right.seen; below = All-nil (λ (it : Addition). it.begin < key.n) } in
-      let cut' : IsRight key.n count (cut v) = right_piece key.n count (cut v) refl right.below in
-      record {
-        limits = holds.limits;
-        right = All-snoc (IsRight key.n count) (set views id (empty_handed v)) (cut v) cut' (All-set (IsRight key.n count) views id (empty_handed v) left' holds.right);
-        sums = rests key.n key.workers count (over views) (over (set views id (empty_handed v) ++ cut v ∷ [])) (λ measure. measure v) (λ measure. measure (empty_handed v) + measure (cut v))
-            (split_changes views id v (empty_handed v) (cut v) at) holds.sums
-            (λ weight. omega arith)
-            (λ weight. omega arith)
-            (omega arith)
-            (λ number. let none = covers_none number 0 in omega (arith, none))
-            (omega arith);
-      }
-
--- the tally splits off a new worker
-pub makes : (key : Limits) (id : ℕ) (v : View) → 0 < v.unmade → v.n ≡ key.n → v.most ≡ key.workers → Splits (IsKept key) id v (left_to_make v) (made v)
-makes key id v some_left n_is most_is s is_kept me = record {
-  count = is_kept.count;
-  word = is_kept.word;
-  holds = make_keeps key id v is_kept.count s.views some_left n_is most_is is_kept.holds me;
-}
-
--- a worker splits off a piece
-pub cuts : (key : Limits) (id : ℕ) (v : View) → Splits (IsKept key) id v (empty_handed v) (cut v)
-cuts key id v s is_kept me = record { count = is_kept.count; word = is_kept.word; holds = cut_keeps key id v is_kept.count s.views is_kept.holds me }
-
--- the tally joins a piece, or a worker
-pub gathers : (key : Limits) (id : ℕ) (v : View) (other : ℕ) (w : View) → w.unmade ≡ 0 → Joins (IsKept key) id v other w (gathered v w) spent_view
-gathers key id v other w none_left s is_kept me apart there = record {
-  count = is_kept.count;
-  word = is_kept.word;
-  holds =
-      let count = is_kept.count in let views = s.views in let holds = is_kept.holds in
-      let P : View → Type 0 = IsRight key.n count in
-      let right = All-at P views id v me holds.right in
-      let right_other = All-at P views other w (at_other views id other (gathered v w) w apart there) holds.right in
-      let both : P (gathered v w) = record {
-        seen = All-append (λ (it : Worker). it.seen ≤ count) v.workers w.workers right.seen right_other.seen;
-        below = All-append (λ (it : Addition). it.begin < key.n) v.held w.held right.below right_other.below;
-      }
-      in
-      let spent : P spent_view = right_piece key.n count spent_view refl (All-nil (λ (it : Addition). it.begin < key.n)) in
-      let claims : (weight : Addition → ℕ) → claimed weight (gathered v w) ≡ claimed weight v + claimed weight w =
-      λ weight. sum_by-append (λ (it : Worker). sum_by weight it.claims) v.workers w.workers
-      in
-      record {
-        limits = holds.limits;
-        right = All-set P (set views id (gathered v w)) other spent_view spent (All-set P views id (gathered v w) both holds.right);
-        sums = rests key.n key.workers count (over views) (over (set (set views id (gathered v w)) other spent_view)) (λ measure. measure v + measure w) (λ measure. measure (gathered v w) + measure spent_view)
-            (join_changes views id other v w (gathered v w) spent_view me there) holds.sums
-            (λ weight. let held = sum_by-append weight v.held w.held in omega (arith, held, claims (blank key.n weight)))
-            (λ weight. omega (arith, claims weight))
-            (let all_saw = sum_by-append (λ (it : Worker). cond (nat_le key.n it.seen) 1 0) v.workers w.workers in omega (arith, all_saw))
-            (λ number.
-            let counts = sum_by-append (λ (it : Worker). cond (it.number == number) 1 0) v.workers w.workers in
-            let none : covers number w.next w.unmade ≡ 0 = ap (λ size. covers number w.next size) none_left ∙ covers_none number w.next in
-            let nothing = covers_none number 0 in
-            omega (arith, counts, none, nothing))
-            (let long = length-append v.workers w.workers in omega (arith, long, none_left));
-      };
-}
-  where
-    at_other : (views : List View) (i j : ℕ) (a b : View) → ¬ (j ≡ i) → get_elem? (set views i a) j ≡ some b → get_elem? views j ≡ some b
-    at_other views i j a b ne e = sym (set_else views i j a ne) ∙ e

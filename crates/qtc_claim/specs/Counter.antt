@@ -1,8 +1,8 @@
 -- What contracts see of a counter, a seat, a piece and a tally, and what the calls answer (own).
-use Rattle.std.specs.Prelude.{◌≡◌, ℕ, ◌+◌, ◌*◌, ◌<◌, ◌≤◌, ◌⊎◌, cond, nat_lt, List, [], Some, map, length, slice_get, All}
+use Rattle.std.specs.Prelude.{◌≡◌, ℕ, ◌+◌, ◌*◌, ◌<◌, ◌≤◌, ◌⊎◌, cond, nat_lt, List, [], Option, Some, None, map, length, slice_get, All, Contains, sum_by}
 use Rattle.atomic_table.specs.Seated.{TableId}
 use Rattle.qtc_base.specs.Ranges.{Tiles}
-use Rattle.qtc_claim.specs.Claims.{Addition, Worker, new_worker, after_load, after_addition, added, added_past, times_numbered, claims_of, clipped, gave, AreParts, MeetNowhere}
+use Rattle.qtc_claim.specs.Claims.{Addition, Worker, new_worker, after_load, after_addition, added, added_past, times_numbered, claims_of, settled_of, clipped, gave, AreParts, MeetNowhere, Loan}
 use Rattle.qtc_base.specs.Limits.{most_block}
 
 -- which counter it is, as no other has its table; how many indexes it counts, and for how many workers
@@ -21,11 +21,28 @@ pub record PieceState : Type 0 where
   pub of : CounterId
   pub addition : Addition
 
--- the tally of the counter: the pieces and the workers that it gathered, in order
+-- a receipt of the counter, and the addition of its piece
+pub record ReceiptState : Type 0 where
+  pub of : CounterId
+  pub addition : Addition
+
+-- the token of the counter, and what it is lent for
+pub record TokenState : Type 0 where
+  pub of : CounterId
+  pub loan : Loan
+
+-- the tally of the counter: the pieces and the workers that it gathered, in order; the receipts that it keeps; and what
+-- the token is lent for, while it is out
 pub record TallyState : Type 0 where
   pub of : CounterId
   pub pieces : List Addition
   pub workers : List Worker
+  pub kept : List Addition
+  pub lent : Option Loan
+
+-- nothing was gathered, and the token is home
+abbrev pub new_tally : CounterId → TallyState
+new_tally counter = record { of = counter; pieces = []; workers = []; kept = []; lent = None }
 
 -- the counter is for so much; there is a seat for each worker, with the numbers from 0 on; nothing was claimed or
 -- gathered
@@ -34,7 +51,7 @@ pub record IsNew (n workers : ℕ) (counter : CounterId) (seats : List SeatState
   pub for_workers : counter.workers ≡ workers
   pub count : length seats ≡ workers
   pub each : (i : ℕ) → i < workers → slice_get seats i ≡ Some (record { of = counter; worker = new_worker i })
-  pub nothing : tally ≡ record { of = counter; pieces = []; workers = [] }
+  pub nothing : tally ≡ new_tally counter
 
 -- what a worker knows of the counter as it saw it last: it never goes back, it passes n by at most so much for each
 -- worker, all that the worker added is in it, and what the worker claimed meets nowhere
@@ -94,3 +111,14 @@ pub record KnowsClaims (tally : TallyState) : Type 0 where
       → Tiles (map (clipped tally.of.n) (claims_of tally.workers)) tally.of.n
   pub pieces : (out : List Addition) × AreParts tally.pieces out (gave tally.of.n (claims_of tally.workers))
   pub numbers : (number : ℕ) → number < tally.of.workers → times_numbered number tally.workers ≡ 1
+
+-- one of the workers saw n or more
+abbrev pub SawAll : ℕ → List Worker → Type 0
+SawAll n workers = (worker : Worker) × Contains workers worker × (n ≤ worker.seen)
+
+-- all seats are gathered; what their workers settled is, each once, what they claimed with a piece; and one of them saw
+-- n or more
+pub record IsSettled (tally : TallyState) : Type 0 where
+  pub all : HasAll tally
+  pub each : (weight : Addition → ℕ) → sum_by weight (settled_of tally.workers) ≡ sum_by weight (gave tally.of.n (claims_of tally.workers))
+  pub saw : SawAll tally.of.n tally.workers

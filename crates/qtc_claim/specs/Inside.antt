@@ -1,15 +1,17 @@
 -- What the fields of a counter, a seat, a piece and a tally mean (own).
-use Rattle.std.specs.Prelude.{◌≡◌, ℕ, ◌+◌, ◌^◌, ◌≤◌, ◌<◌, List, [], ◌∷◌, map, length, cond, nat_lt, slice_index_or}
+use Rattle.std.specs.Prelude.{◌≡◌, ℕ, ◌+◌, ◌^◌, ◌≤◌, ◌<◌, List, [], ◌∷◌, map, length, cond, nat_lt, slice_index_or, sum_by, All, Option, None, is_some}
 use Rattle.qtc_base.specs.Ranges.{Tiles}
 use Rattle.qtc_claim.specs.declared.counter.Counter.TheInside as counter
 use Rattle.qtc_claim.specs.declared.seat.Seat.TheInside as seat
 use Rattle.qtc_claim.specs.declared.piece.Piece.TheInside as piece
+use Rattle.qtc_claim.specs.declared.receipt.Receipt.TheInside as receipt
+use Rattle.qtc_claim.specs.declared.token.Token.TheInside as token
 use Rattle.qtc_claim.specs.declared.tally.Tally.TheInside as tally
 use Rattle.atomic_table.specs.declared.shared.Seat as table
 use Rattle.qtc_claim.specs.declared.rule.View.{View}
-use Rattle.qtc_claim.specs.Claims.{IsWithinLimits, Addition, addition_at, after_load, after_addition, Worker, new_worker, added, added_past, claims_of, clipped}
-use Rattle.qtc_claim.specs.Rule.{worker_view, piece_view}
-use Rattle.qtc_claim.specs.Counter.{CounterId, SeatState, PieceState, TallyState, Sees, IsGathered, HasAll, IsEnd, KnowsClaims, added_by}
+use Rattle.qtc_claim.specs.Claims.{IsWithinLimits, Addition, addition_at, after_load, after_addition, Worker, new_worker, added, added_past, claims_of, clipped, Loan, Book}
+use Rattle.qtc_claim.specs.Rule.{worker_view, piece_view, receipt_view, token_view, marked, tallies}
+use Rattle.qtc_claim.specs.Counter.{CounterId, SeatState, PieceState, ReceiptState, TokenState, TallyState, Sees, IsGathered, HasAll, IsEnd, IsSettled, KnowsClaims, added_by}
 
 abbrev pub counter_id : counter.Inside → CounterId
 counter_id a = record { table = a.table.shared.table_id; n = a.limits.n; workers = a.limits.workers }
@@ -76,24 +78,60 @@ pub record IsPiece (a : piece.Inside) : Type 0 where
   pub range : (a.range.begin, a.range.end) ≡ clipped a.seat.me.0.n (addition_of a.seat.me.0)
   pub size : a.size ≡ (addition_of a.seat.me.0).size
 
+-- the one addition of a receipt's view
+abbrev pub receipted_of : View → Addition
+receipted_of view = slice_index_or view.receipts 0 (addition_at 0 0)
+
+abbrev pub receipt_state : receipt.Inside → ReceiptState
+receipt_state a = record { of = of_seat a.seat; addition = receipted_of a.seat.me.0 }
+
+pub record IsReceipt (a : receipt.Inside) : Type 0 where
+  pub me : a.seat.me ≡ (receipt_view a.seat.me.0.n a.seat.me.0.most (receipted_of a.seat.me.0 ∷ []), [])
+
+-- what a token's view is lent for
+abbrev pub loan_of : View → Loan
+loan_of view = slice_index_or view.tokens 0 (record { note = []; due = addition_at 0 0 })
+
+abbrev pub token_state : token.Inside → TokenState
+token_state a = record { of = of_seat a.seat; loan = loan_of a.seat.me.0 }
+
+pub record IsToken (a : token.Inside) : Type 0 where
+  pub me : a.seat.me ≡ (token_view a.seat.me.0.n a.seat.me.0.most (loan_of a.seat.me.0 ∷ []), [])
+
+-- what the first book lent the token for
+abbrev pub lent_in : List Book → Option Loan
+lent_in [] = None
+lent_in (book ∷ _) = book.lent
+
 abbrev pub tally_state : tally.Inside → TallyState
 tally_state a = record {
   of = of_seat a.seat;
   pieces = a.seat.me.0.held;
   workers = a.seat.me.0.workers;
+  kept = a.seat.me.0.receipts;
+  lent = lent_in a.seat.me.0.books;
 }
 
--- a tally whose workers are all made
+-- a tally whose workers are all made, and which gave a receipt of each piece
 pub record IsTally (a : tally.Inside) : Type 0 where
   pub slots : a.seat.me.1 ≡ []
   pub made : a.seat.me.0.unmade ≡ 0
   pub gathered : a.gathered ≡ added a.seat.me.0.held
   pub blank : a.blank ≡ added_past a.seat.me.0.n (claims_of a.seat.me.0.workers)
   pub seats : a.seats ≡ length a.seat.me.0.workers
+  pub one : tallies a.seat.me.0 ≡ 1
+  pub marked : (weight : Addition → ℕ) → marked weight a.seat.me.0 ≡ sum_by weight a.seat.me.0.held
+  pub lent : a.is_lent ≡ is_some (lent_in a.seat.me.0.books)
 
 -- what a tally's seat has, once it found the counter at `count`
 abbrev pub tally_of : CounterId → table.Seat (Unit {0}) View → TallyState
-tally_of counter seat = record { of = counter; pieces = seat.me.0.held; workers = seat.me.0.workers }
+tally_of counter seat = record {
+  of = counter;
+  pieces = seat.me.0.held;
+  workers = seat.me.0.workers;
+  kept = seat.me.0.receipts;
+  lent = lent_in seat.me.0.books;
+}
 
 pub record HasRead (counter : CounterId) (count : ℕ) (tally : TallyState) : Type 0 where
   pub limits : IsWithinLimits counter.n counter.workers
@@ -103,3 +141,8 @@ pub record HasRead (counter : CounterId) (count : ℕ) (tally : TallyState) : Ty
   pub all : HasAll tally → added_by tally.workers ≡ count
   pub claims : HasAll tally → KnowsClaims tally
   pub pieces : IsEnd tally → Tiles (map (clipped counter.n) tally.pieces) counter.n
+
+-- where all seats are gathered and settled, the tally is at its end, and keeps no receipt
+pub record HasSettled (tally : TallyState) : Type 0 where
+  pub end : IsSettled tally → IsEnd tally
+  pub kept : IsSettled tally → tally.kept ≡ []

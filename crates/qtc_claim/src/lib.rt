@@ -14,12 +14,17 @@
 mod counter;
 mod laws;
 mod piece;
+mod receipt;
 mod rule;
 mod seat;
 mod tally;
+mod token;
 
 pub use counter::Counter;
 pub use laws::calls_come_together;
 pub use piece::Piece;
+pub use receipt::Receipt;
+pub use rule::Lends;
 pub use seat::Seat;
 pub use tally::Tally;
+pub use token::Token;

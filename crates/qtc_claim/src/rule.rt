@@ -1,10 +1,11 @@
 //! The rule of a counter's table, and the steps on it.
 ghost use Rattle.std.specs.Prelude.{ℕ, List};
 ghost use Rattle.std.specs.Borrow.{ftrue};
-ghost use Rattle.qtc_claim.specs.Claims.{Addition, Worker};
+ghost use Rattle.qtc_claim.specs.Claims.{Addition, Book, Loan, Worker, addition_at};
+ghost use Rattle.std.specs.Prelude.{Bool, false, []};
 
 use atomic_table::{Join, Play, Split, TableRule};
-use std::marker::Model;
+use std::marker::{Brand, Model, PhantomData};
 
 /// What the table is told when it is made: how many indexes there are, and for how many workers.
 #[derive(Clone, Copy)]
@@ -15,7 +16,7 @@ pub struct Limits {
 
 /// What a seat at the table knows. No value of it is made.
 ///
-/// One shape serves workers, pieces and the tally: what a seat is shows in what its view has.
+/// One shape serves workers, pieces, receipts, tokens and the tally: what a seat is shows in what its view has.
 pub struct View {
     pub ghost n: { ℕ },
     pub ghost most: { ℕ },
@@ -23,6 +24,9 @@ pub struct View {
     pub ghost unmade: { ℕ },
     pub ghost workers: { List Worker },
     pub ghost held: { List Addition },
+    pub ghost receipts: { List Addition },
+    pub ghost tokens: { List Loan },
+    pub ghost books: { List Book },
 }
 
 impl Model for View {
@@ -91,13 +95,84 @@ impl Split<View> for Cut {
     ghost right = { cut };
 }
 
-/// The tally takes in a piece, or a worker with none in hand.
+/// The tally takes in a piece, a worker with none in hand, or a receipt that it keeps.
 pub struct Gather;
 
 impl Join<View> for Gather {
     ghost use Rattle.qtc_claim.specs.Rule.{gathered, spent_view};
 
     ghost both = { gathered };
+
+    ghost spent = { spent_view };
+}
+
+/// The tally gives the receipt of what it gathered last.
+pub struct Mark;
+
+impl Split<View> for Mark {
+    ghost use Rattle.qtc_claim.specs.Rule.{last_marked, last_receipt};
+
+    ghost left = { last_marked };
+
+    ghost right = { last_receipt };
+}
+
+/// The tally gives a receipt back that it kept.
+pub struct Release;
+
+impl Split<View> for Release {
+    ghost use Rattle.qtc_claim.specs.Rule.{receipts_of, without_receipts};
+
+    ghost left = { without_receipts };
+
+    ghost right = { receipts_of };
+}
+
+/// A worker takes a receipt in.
+pub struct Settle;
+
+impl Join<View> for Settle {
+    ghost use Rattle.qtc_claim.specs.Rule.{settling, spent_view};
+
+    ghost both = { settling };
+
+    ghost spent = { spent_view };
+}
+
+/// Names what a token is lent for, at the call that lends it.
+pub trait Lends {
+    ghost loan: { Loan };
+
+    /// That the caller picked it. `Brand` says no, and `Tally::take_token` requires it.
+    ghost named: { Bool };
+}
+
+impl Lends for Brand {
+    ghost loan = { record { note = []; due = addition_at 0 0 } };
+
+    ghost named = { false };
+}
+
+/// The tally lends its token, for what `N` names.
+pub struct Lend<N> {
+    marker: PhantomData<N>,
+}
+
+impl<N: Lends> Split<View> for Lend<N> {
+    ghost use Rattle.qtc_claim.specs.Rule.{lending, token_for};
+
+    ghost left = { lending N.loan };
+
+    ghost right = { token_for N.loan };
+}
+
+/// The token comes home.
+pub struct Home;
+
+impl Join<View> for Home {
+    ghost use Rattle.qtc_claim.specs.Rule.{back_home, spent_view};
+
+    ghost both = { back_home };
 
     ghost spent = { spent_view };
 }

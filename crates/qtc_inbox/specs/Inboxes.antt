@@ -1,7 +1,7 @@
 -- What contracts see of an inbox and of the passes at it. (Own.)
 use Rattle.std.specs.Prelude.{◌≡◌, ◌+◌, ◌-◌, ◌<◌, ◌≤◌, ℕ, List, [], ◌++◌, All, IsSome, Option, None, Some, map}
 use Rattle.qtc_claim.specs.Claims.{Addition, MeetNowhere}
-use Rattle.qtc_claim.specs.Counter.{CounterId, PieceState, TallyState}
+use Rattle.qtc_claim.specs.Counter.{CounterId, PieceState, TallyState, new_tally}
 use Rattle.qtc_future.specs.Future.{Logged}
 use Rattle.qtc_shared.specs.Journals.{calls_by}
 use Rattle.qtc_shared.specs.Passes.{IsHold, PassState, Stays}
@@ -32,7 +32,7 @@ pub record IsPieceOf (counter : CounterId) (piece : PieceState) : Type 0 where
 
 -- a tally of the counter that gathered nothing
 abbrev pub IsNewTally : CounterId → TallyState → Type 0
-IsNewTally counter tally = tally ≡ record { of = counter; pieces = []; workers = [] }
+IsNewTally counter tally = tally ≡ new_tally counter
 
 module _ {V : Type 0} where
   -- what an inbox with so many passes is for: a place for each of them, and one that takes

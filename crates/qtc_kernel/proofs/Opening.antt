@@ -7,7 +7,7 @@ use Rattle.std.proofs.lemmas.Bool.Decides.{nat_tests}
 use Rattle.std.proofs.lemmas.List.Elements.{All-cons, All-filter, All-head, All-nil, All-tail}
 use Rattle.qtc_active.specs.Count.{BadgeState, CountId, IsNew as IsNewCount, new_badge}
 use Rattle.qtc_claim.specs.Claims.{IsWithinLimits, clipped, new_worker}
-use Rattle.qtc_claim.specs.Counter.{CounterId, IsNew, SeatState, TallyState}
+use Rattle.qtc_claim.specs.Counter.{CounterId, IsNew, SeatState, TallyState, new_tally}
 use Rattle.qtc_events.specs.declared.calls.Call.TheVariants.{Cancel, Fail, Start}
 use Rattle.qtc_events.specs.declared.entries.Reached.{Reached}
 use Rattle.qtc_future.specs.Answering.{IsStep}
@@ -103,7 +103,7 @@ module _ {F : Type 0} (value : F → List ℕ → ItemValue) (called : F → Lis
   none_own : (k : ℕ) → 1 ≤ k → calls_by k opening ≡ []
   none_own k some = let is : (0 == k) ≡ false = grind (arith, nat_tests) in rw is refl
 
-  pub board_opens : (tally : TallyState) (pass : PassState (List ℕ)) → 1 ≤ parts.counter.workers → tally ≡ record { of = parts.counter; pieces = []; workers = [] } → pass ≡ pass_at parts.future (reporter parts) opening → IsBoard value parts tally pass true
+  pub board_opens : (tally : TallyState) (pass : PassState (List ℕ)) → 1 ≤ parts.counter.workers → tally ≡ new_tally parts.counter → pass ≡ pass_at parts.future (reporter parts) opening → IsBoard value parts tally pass true
   board_opens tally pass some tally_is pass_is = record {
     counter = ap (λ (t : TallyState). t.of) tally_is;
     future = ap (λ (p : PassState (List ℕ)). p.of) pass_is;

@@ -1,7 +1,9 @@
 ghost use Rattle.std.specs.Prelude.{◌≡◌, [], IfOk};
 ghost use Rattle.qtc_claim.specs.Claims.{IsWithinLimits, new_worker};
+ghost use Rattle.qtc_claim.specs.Counter.{new_tally};
 
 mod called;
+mod receipts;
 
 use qtc_base::{NoMemory, Range};
 use qtc_claim::{Counter, Piece, Seat, Tally};
@@ -15,7 +17,7 @@ fn for_two(alloc: Global, n: u32) -> Result<(Counter, Seat, Seat, Tally), NoMemo
     ensures n { IfOk result (λ made. made.0.n ≡ n) }
     ensures first { IfOk result (λ made. made.1 ≡ record { of = made.0; worker = new_worker 0 }) }
     ensures second { IfOk result (λ made. made.2 ≡ record { of = made.0; worker = new_worker 1 }) }
-    ensures tally { IfOk result (λ made. made.3 ≡ record { of = made.0; pieces = []; workers = [] }) }
+    ensures tally { IfOk result (λ made. made.3 ≡ new_tally made.0) }
 {
     let (counter, mut seats, tally) = Counter::new(alloc, n, 2)?;
     let second = seats.pop().unwrap();

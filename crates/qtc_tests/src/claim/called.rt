@@ -2,6 +2,7 @@
 // `call_each` says that the lists together have each index below n once.
 ghost use Rattle.std.specs.Prelude.{◌≡◌, ℕ, ◌+◌, ◌<◌, ◌≤◌, ◌++◌, ◌∷◌, [], All, MatchResult, IfOk, OnOk, IsTrue, length};
 ghost use Rattle.qtc_claim.specs.Claims.{IsWithinLimits, added, claims_of};
+ghost use Rattle.qtc_claim.specs.Counter.{new_tally};
 ghost use Rattle.qtc_base.specs.Limits.{most_block};
 ghost use Rattle.qtc_claim.specs.Laws.{CallsRange, AllOk, AreCalls, EachOnce, NoneMissing, added_for};
 
@@ -142,7 +143,7 @@ fn gather_all(
     tally: &mut Tally,
     mut all: Vec<Result<Worked, NoMemory>>,
 ) -> Result<Vec<u32>, NoMemory>
-    requires tally { tally.old ≡ record { of = counter.now; pieces = []; workers = [] } }
+    requires tally { tally.old ≡ new_tally counter.now }
     requires seats { AllOk (λ worked. worked.seat.of ≡ counter.now) all.items }
     requires past { AllOk (λ worked. counter.now.n ≤ worked.seat.worker.seen) all.items }
     requires calls { AllOk (λ worked. AreCalls counter.now.n worked.seat.worker.claims worked.calls.items) all.items }

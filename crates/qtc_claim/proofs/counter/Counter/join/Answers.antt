@@ -1,5 +1,5 @@
 use Rattle.std.proofs.Common.{ap, sym, ◌∙◌, rules}
-use Rattle.qtc_claim.proofs.Steps.{gathers}
+use Rattle.qtc_claim.proofs.Parting.{gathers}
 use Rattle.qtc_claim.proofs.counter.Counter.join.Goals as goal
 
 pub join_seat-requires : goal.join_seat-requires

@@ -3,7 +3,7 @@ use Rattle.qtc_claim.specs.Claims.{new_worker}
 use Rattle.qtc_claim.specs.Counter.{SeatState}
 use Rattle.qtc_claim.specs.Inside.{seat_of}
 use Rattle.qtc_claim.proofs.Seats.{new_seat, next_seat}
-use Rattle.qtc_claim.proofs.Steps.{makes}
+use Rattle.qtc_claim.proofs.Parting.{makes}
 use Rattle.qtc_claim.proofs.counter.Counter.new.Goals as goal
 
 pub split_seat-seat-requires : goal.split_seat-seat-requires
@@ -30,6 +30,8 @@ loop-made-preserved c =
       unmade = search rules;
       workers = search rules;
       held = search rules;
+      receipts = search rules;
+      books = search rules;
       count = search rules;
       room = search rules;
       each = next_seat state c.loop-made.seats.items _ _ _ c.push_reserved.ensures.items is.count is.each next;

@@ -1,6 +1,6 @@
 use Rattle.std.proofs.Common.{ap, sym, ◌∙◌, rules}
 use Rattle.qtc_claim.proofs.Steps.{reads}
-use Rattle.qtc_claim.proofs.Seats.{read_knows}
+use Rattle.qtc_claim.proofs.Seats.{read_knows, read_settles}
 use Rattle.qtc_claim.proofs.counter.Counter.read.Goals as goal
 
 pub load-requires : goal.load-requires
@@ -12,3 +12,9 @@ load-requires c =
 
 pub returns-clause-read : goal.returns-clause-read
 returns-clause-read c = read_knows c.self.inside _ c.load.result c.args.seat.now c.self.invariant c.self.view_is c.requires.of c.load.ensures.2.1.1
+
+pub returns-clause-settled : goal.returns-clause-settled
+returns-clause-settled c = read_settles c.self.inside _ c.load.result c.args.seat.now c.self.invariant c.self.view_is c.requires.of c.load.ensures.2.1.1
+
+pub returns-clause-books : goal.returns-clause-books
+returns-clause-books c = c.load.ensures.2.1.1.right.books

@@ -1,5 +1,5 @@
 // Four tasks, and a thread that cancels their futures at a random time.
-ghost use Rattle.std.specs.Prelude.{◌≡◌, ◌<◌, false, IfOk};
+ghost use Rattle.std.specs.Prelude.{◌≡◌, ◌∷◌, [], IfOk};
 ghost use Rattle.std.specs.List.{AllZip};
 ghost use Rattle.qtc_tasks.specs.Runs.{MayRun};
 
@@ -24,10 +24,10 @@ type Job = TaskJob<u32, ListTask<u32>>;
 
 type End = TaskEnd<u32, ListTask<u32>>;
 
-// The pass of a job, that of the thread that cancels, and one by which the future is closed.
+// The job of a future, the pass of the thread that cancels, and one by which the future is closed.
 #[derive(Drop)]
-struct Passes {
-    job: Pass<u32>,
+struct Parts {
+    job: Job,
     cancel: Pass<u32>,
     close: Pass<u32>,
 }
@@ -40,25 +40,37 @@ struct Canceller<'a> {
     ghost of: { pass.of ≡ future.now },
 }
 
-fn opened<R: Wait>(rt: &R, alloc: Global) -> Result<(SharedFuture<u32>, Passes), NoMemory>
-    ensures job { IfOk result (λ made. made.1.job.of ≡ made.0) }
-    ensures cancel { IfOk result (λ made. made.1.cancel.of ≡ made.0) }
-    ensures close { IfOk result (λ made. made.1.close.of ≡ made.0) }
-    ensures maker { IfOk result (λ made. made.1.job.number < made.0.terms.makers) }
-    ensures mode { IfOk result (λ made. made.0.terms.filter ≡ false) }
-{
-    let (future, mut job) = plain(alloc)?;
-    let cancel = another(rt, &future, &mut job)?;
-    let close = another(rt, &future, &mut job)?;
-    Ok((future, Passes { job, cancel, close }))
-}
-
 fn task_of(alloc: Global) -> Result<ListTask<u32>, NoMemory> {
     let mut values = Vec::new(alloc);
     for value in 0..VALUES {
         values.push(value)?;
     }
     Ok(ListTask::new(List::from_vec(values), None))
+}
+
+fn opened<R: Wait>(rt: &R, alloc: Global) -> Result<(SharedFuture<u32>, Parts), NoMemory>
+    ensures job { IfOk result (λ made. MayRun made.0 made.1.job) }
+    ensures cancel { IfOk result (λ made. made.1.cancel.of ≡ made.0) }
+    ensures close { IfOk result (λ made. made.1.close.of ≡ made.0) }
+{
+    let task = task_of(alloc)?;
+    let (future, mut pass) = plain(alloc)?;
+    let cancel = another(rt, &future, &mut pass)?;
+    let close = another(rt, &future, &mut pass)?;
+    let job = TaskJob { pass, task };
+    Ok((future, Parts { job, cancel, close }))
+}
+
+// The four of them, in their order.
+fn four<T: Drop>(alloc: Global, a: T, b: T, c: T, d: T) -> Result<Vec<T>, NoMemory>
+    ensures { IfOk result (λ list. list.items ≡ a ∷ b ∷ c ∷ d ∷ []) }
+{
+    let mut list = Vec::new(alloc);
+    list.push(a)?;
+    list.push(b)?;
+    list.push(c)?;
+    list.push(d)?;
+    Ok(list)
 }
 
 // Cancels the futures, one after the other, after so many turns.
@@ -154,32 +166,32 @@ fn raced<R: Threads + Wait + Sync>(rt: &R, alloc: Global, turns: u32) -> Result<
     let (b, of_b) = opened(rt, alloc)?;
     let (c, of_c) = opened(rt, alloc)?;
     let (d, of_d) = opened(rt, alloc)?;
-    let mut jobs = Vec::new(alloc);
-    for pass in [of_a.job, of_b.job, of_c.job, of_d.job] {
-        let task = task_of(alloc)?;
-        jobs.push(TaskJob { pass, task })?;
-    }
-    let futures = [a, b, c, d];
+    let jobs = four(alloc, of_a.job, of_b.job, of_c.job, of_d.job)?;
+    let mut futures = four(alloc, a, b, c, d)?;
+    let shared = futures.as_slice();
     let cancellers = [
         Canceller {
-            future: &futures[0],
+            future: &shared[0],
             pass: of_a.cancel,
         },
         Canceller {
-            future: &futures[1],
+            future: &shared[1],
             pass: of_b.cancel,
         },
         Canceller {
-            future: &futures[2],
+            future: &shared[2],
             pass: of_c.cancel,
         },
         Canceller {
-            future: &futures[3],
+            future: &shared[3],
             pass: of_d.cancel,
         },
     ];
-    let ends = run_late(rt, alloc, futures.as_slice(), jobs, cancellers, turns)?;
-    let [a, b, c, d] = futures;
+    let ends = run_late(rt, alloc, shared, jobs, cancellers, turns)?;
+    let d = futures.pop().unwrap();
+    let c = futures.pop().unwrap();
+    let b = futures.pop().unwrap();
+    let a = futures.pop().unwrap();
     let cores = [
         a.close(rt, of_a.close),
         b.close(rt, of_b.close),

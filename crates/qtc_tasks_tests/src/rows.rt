@@ -250,18 +250,23 @@ fn a_full_future_refuses_values(rt: HostRuntime) -> Result<(), Fail> {
     Ok(())
 }
 
-// Resumes the future once the work stands still: whether it did.
-fn resume_late<R: Wait>(rt: &R, future: &SharedFuture<u32>, watcher: &mut Pass<u32>) -> bool
-    requires { watcher.old.of ≡ future.now }
-    ensures { watcher.new.of ≡ watcher.old.of }
+// Resumes the future once the work stands still: whether it did, and the pass.
+fn resume_late<R: Wait>(
+    rt: &R,
+    future: &SharedFuture<u32>,
+    mut watcher: Pass<u32>,
+) -> (bool, Pass<u32>)
+    requires { watcher.of ≡ future.now }
+    ensures { result.1.of ≡ future.now }
 {
     for _ in 0..MOST_TURNS {
-        if future.state(watcher).is_suspended() {
-            return future.set_suspended(rt, watcher, false) == Ok(true);
+        if future.state(&mut watcher).is_suspended() {
+            let resumed = future.set_suspended(rt, &mut watcher, false) == Ok(true);
+            return (resumed, watcher);
         }
         yield_now();
     }
-    false
+    (false, watcher)
 }
 
 #[test]
@@ -272,16 +277,17 @@ fn a_suspended_task_stands_still_until_it_is_resumed(rt: HostRuntime) -> Result<
     future.set_suspended(&rt, &mut watcher, true)?;
     let task = ListTask::new(listed(alloc, &[7])?, None);
     let shared = &future;
-    let (ran, resumed) = join(
+    let (ran, (resumed, watcher)) = join(
         &rt,
         move ||
             requires of { pass.of ≡ shared.now }
             requires maker { pass.number < shared.now.terms.makers }
             requires mode { shared.now.terms.filter ≡ false }
         { run_by(&rt, alloc, shared, pass, task) },
-        ||
+        move || -> (bool, Pass<u32>)
             requires { watcher.of ≡ shared.now }
-        { resume_late(&rt, shared, &mut watcher) },
+            ensures { result.1.of ≡ shared.entry.now }
+        { resume_late(&rt, shared, watcher) },
     );
     let (stop, came) = ran?;
     assert_eq!(rt; (stop_of(&stop), came, resumed), (Stop::Whole, 1, true));
